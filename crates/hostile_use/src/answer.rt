@@ -1,8 +1,9 @@
 //! What calls answer.
 
+use crate::texts::shown;
 use span_core::SpanDetails;
 use span_forest::{Held, Span};
-use span_id::{Fault, Id};
+use span_id::{Fault, Field, Fields, Id, Meta, SharedMeta};
 use span_registry::Found;
 use std::fmt;
 
@@ -24,11 +25,15 @@ pub(crate) enum Answer {
     Details(Vec<SpanDetails>),
     Names(Vec<String>),
     Text(String),
+    /// What a layer writes.
+    Bytes(Vec<u8>),
+    Meta(Meta),
+    SharedMeta(SharedMeta),
+    Field(Field),
+    Fields(Fields),
     Found(Found),
     /// Handles, entries and count.
     Held(u32, u32, u32),
-    /// It was refused, for another reason than memory.
-    Refused(Fault),
 }
 
 impl From<Option<Id>> for Answer {
@@ -42,50 +47,8 @@ impl From<Option<Id>> for Answer {
 
 /// The answer of a call that tells only that it is done.
 pub(crate) fn done(made: Result<(), Fault>) -> Result<Answer, Fault> {
-    match made {
-        Ok(()) => Ok(Answer::Done),
-        Err(fault) => Err(fault),
-    }
-}
-
-/// The answer of a call that tells yes or no.
-pub(crate) fn yes_or_no(made: Result<bool, Fault>) -> Result<Answer, Fault> {
-    match made {
-        Ok(yes) => Ok(Answer::Yes(yes)),
-        Err(fault) => Err(fault),
-    }
-}
-
-/// The answer of a call that lists spans.
-pub(crate) fn spans(ids: Result<Vec<Id>, Fault>) -> Result<Answer, Fault> {
-    match ids {
-        Ok(ids) => Ok(Answer::Spans(ids)),
-        Err(fault) => Err(fault),
-    }
-}
-
-/// The answer of a call that lists what keeps spans open.
-pub(crate) fn holders(held: Result<Vec<Held>, Fault>) -> Result<Answer, Fault> {
-    match held {
-        Ok(held) => Ok(Answer::Holders(held)),
-        Err(fault) => Err(fault),
-    }
-}
-
-/// The answer of a call that tells of all open spans.
-pub(crate) fn details(list: Result<Vec<SpanDetails>, Fault>) -> Result<Answer, Fault> {
-    match list {
-        Ok(list) => Ok(Answer::Details(list)),
-        Err(fault) => Err(fault),
-    }
-}
-
-/// The answer of a call that lists workers.
-pub(crate) fn workers(numbers: Result<Vec<u32>, Fault>) -> Result<Answer, Fault> {
-    match numbers {
-        Ok(numbers) => Ok(Answer::Workers(numbers)),
-        Err(fault) => Err(fault),
-    }
+    made?;
+    Ok(Answer::Done)
 }
 
 /// What holds a span, if it is open.
@@ -110,11 +73,33 @@ impl fmt::Display for Answer {
             Answer::Details(list) => write_details(f, list.as_slice()),
             Answer::Names(names) => write_all(f, names.as_slice()),
             Answer::Text(text) => f.write_str(text.as_str()),
+            Answer::Bytes(text) => f.write_str(shown(text.as_slice())),
+            Answer::Meta(meta) => write_meta(f, meta),
+            Answer::SharedMeta(meta) => write_meta(f, meta.as_meta()),
+            Answer::Field(field) => write_field(f, field),
+            Answer::Fields(fields) => write_fields(f, fields.as_slice()),
             Answer::Found(found) => write_found(f, found),
             Answer::Held(handles, entries, count) => write_held(f, *handles, *entries, *count),
-            Answer::Refused(fault) => write_refused(f, *fault),
         }
     }
+}
+
+fn write_meta<W: fmt::Write>(f: &mut fmt::Formatter<W>, meta: &Meta) -> fmt::Result {
+    write!(f, "{} {} {}", meta.name, meta.target, meta.level)
+}
+
+fn write_field<W: fmt::Write>(f: &mut fmt::Formatter<W>, field: &Field) -> fmt::Result {
+    write!(f, "{}={}", field.key, field.value)
+}
+
+fn write_fields<W: fmt::Write>(f: &mut fmt::Formatter<W>, fields: &[Field]) -> fmt::Result {
+    let mut gap = "";
+    for field in fields {
+        f.write_str(gap)?;
+        write_field(f, field)?;
+        gap = " ";
+    }
+    Ok(())
 }
 
 fn write_held<W: fmt::Write>(
@@ -124,10 +109,6 @@ fn write_held<W: fmt::Write>(
     count: u32,
 ) -> fmt::Result {
     write!(f, "handles {handles} entries {entries} count {count}")
-}
-
-fn write_refused<W: fmt::Write>(f: &mut fmt::Formatter<W>, fault: Fault) -> fmt::Result {
-    write!(f, "! {fault}")
 }
 
 fn write_all<T: fmt::Display, W: fmt::Write>(
@@ -155,24 +136,24 @@ fn write_holders<W: fmt::Write>(f: &mut fmt::Formatter<W>, held: &[Held]) -> fmt
     f.write_str(" ]")
 }
 
-// Each span with its name, its parent, its handles, the workers that are inside it, and its open children.
 fn write_details<W: fmt::Write>(f: &mut fmt::Formatter<W>, list: &[SpanDetails]) -> fmt::Result {
     f.write_str("[")?;
     for one in list {
-        let (name, parent) = (
-            one.meta.as_meta().name.as_str(),
-            one.parent.map_or(0, Id::get),
-        );
-        write!(
-            f,
-            " {} {name} parent {parent} handles {}",
-            one.id, one.handles
-        )?;
-        f.write_str(" workers ")?;
-        write_all(f, one.workers.as_slice())?;
-        write!(f, " children {}", one.children)?;
+        write_detail(f, one)?;
     }
     f.write_str(" ]")
+}
+
+// A span with its name, its parent, its handles, the workers that are inside it, and its open children.
+fn write_detail<W: fmt::Write>(f: &mut fmt::Formatter<W>, one: &SpanDetails) -> fmt::Result {
+    let (name, parent) = (&one.meta.as_meta().name, one.parent.map_or(0, Id::get));
+    write!(
+        f,
+        " {} {name} parent {parent} handles {} workers ",
+        one.id, one.handles
+    )?;
+    write_all(f, one.workers.as_slice())?;
+    write!(f, " children {}", one.children)
 }
 
 fn write_found<W: fmt::Write>(f: &mut fmt::Formatter<W>, found: &Found) -> fmt::Result {

@@ -11,7 +11,6 @@ mod trial;
 
 use crate::rows::Row;
 use crate::stage::Stage;
-use crate::stop::Stop;
 use std::alloc::Global;
 use std::io;
 use std::process::ExitCode;
@@ -24,7 +23,7 @@ fn main(rt: HostRuntime) -> io::Result<ExitCode> {
             Some(row) => run(&rt, rt.alloc(), true, &[row]),
             None => no_row(&rt),
         },
-        [] | [_] => run(&rt, rt.alloc(), false, &Row::ALL),
+        [] | [_] => run(&rt, rt.alloc(), false, Row::together()),
         _ => no_row(&rt),
     }
 }
@@ -43,9 +42,6 @@ fn run<R: Print + Wait>(rt: &R, alloc: Global, marked: bool, rows: &[Row]) -> io
 fn run_row<R: Print + Wait>(rt: &R, alloc: Global, marked: bool, row: Row) -> io::Result<bool> {
     let stage = Stage::new(rt, row, marked);
     let ended = row.run(&stage, alloc);
-    if let Err(Stop::Memory) = ended {
-        stage.wrote(println!(rt; "out of memory: {}", row.name()));
-    }
     stage.end()?;
     Ok(ended.is_ok())
 }

@@ -19,14 +19,14 @@ mod slots;
 mod stack;
 mod with_layers;
 
-use crate::rows::acts::Names;
+use crate::rows::acts::Given;
 use crate::stage::{Stage, TRIES};
 use crate::stop::Stop;
 use std::alloc::Global;
 use std::sync::Wait;
 
 /// What is called.
-#[derive(Clone, Copy, PartialEq, Eq)]
+#[derive(Clone, Copy)]
 pub(crate) enum Row {
     Meta,
     Field,
@@ -47,26 +47,32 @@ pub(crate) enum Row {
     Latest,
 }
 
-impl Row {
-    /// The rows that are run together.
-    pub(crate) const ALL: [Row; 13] = [
-        Row::Meta,
-        Row::Field,
-        Row::Plain,
-        Row::Slots,
-        Row::Stack,
-        Row::Forest,
-        Row::Layers,
-        Row::Outlets,
-        Row::Core,
-        Row::Kept,
-        Row::GivenUp,
-        Row::FullRing,
-        Row::Ring,
-    ];
+// All rows.
+static ALL: [Row; 17] = [
+    Row::Meta,
+    Row::Field,
+    Row::Plain,
+    Row::Slots,
+    Row::Stack,
+    Row::Forest,
+    Row::Layers,
+    Row::Outlets,
+    Row::Core,
+    Row::Kept,
+    Row::GivenUp,
+    Row::FullRing,
+    Row::Ring,
+    Row::Over,
+    Row::Texts,
+    Row::LatestAlone,
+    Row::Latest,
+];
 
-    /// The rows that are run by their names alone.
-    const BY_NAME: [Row; 4] = [Row::Over, Row::Texts, Row::LatestAlone, Row::Latest];
+impl Row {
+    /// The rows that are run together. The others are run by their names alone.
+    pub(crate) fn together() -> &'static [Row] {
+        &ALL[..13]
+    }
 
     /// The word for it.
     pub(crate) fn name(self) -> &'static str {
@@ -93,23 +99,28 @@ impl Row {
 
     /// The row of this name.
     pub(crate) fn named(name: &str) -> Option<Row> {
-        match Row::ALL.iter().copied().find(|row| row.name() == name) {
-            Some(row) => Some(row),
-            None => Row::BY_NAME.iter().copied().find(|row| row.name() == name),
-        }
+        ALL.iter().copied().find(|row| row.name() == name)
     }
 
-    /// Makes its calls, and tells what they answer.
+    /// Makes its calls, and tells what they answer. Where memory is refused before the first one it begins anew.
     pub(crate) fn run<R: Print + Wait>(self, stage: &Stage<R>, alloc: Global) -> Result<(), Stop> {
         stage.wrote(println!(stage.rt; "== {}", self.name()));
+        for _ in 0..TRIES {
+            match self.begin(stage, alloc) {
+                Err(Stop::Memory) => {}
+                ended => return ended,
+            }
+        }
+        Err(stage.refused_too_often("new"))
+    }
+
+    fn begin<R: Print + Wait>(self, stage: &Stage<R>, alloc: Global) -> Result<(), Stop> {
         match self {
-            Row::Meta => copies::run_meta(stage, alloc),
-            Row::Field => copies::run_field(stage, alloc),
+            Row::Meta | Row::Field | Row::Over => copies::run(stage, alloc, self),
             Row::Plain => plain::run(stage, alloc),
             Row::Slots => slots::run(stage, alloc),
             Row::Stack => stack::run(stage, alloc),
             Row::Forest => forest::run(stage, alloc),
-            Row::Over => copies::run_over(stage, alloc),
             Row::LatestAlone => outlets::run_latest(stage, alloc),
             Row::Layers => self.with_layers(stage, alloc, 65),
             Row::Latest => self.with_layers(stage, alloc, 2),
@@ -120,33 +131,19 @@ impl Row {
         }
     }
 
-    // Makes the names, and goes on with so many layers.
+    // Makes what calls are given, and goes on with so many layers.
     fn with_layers<R: Print + Wait>(
         self,
         stage: &Stage<R>,
         alloc: Global,
         count: usize,
     ) -> Result<(), Stop> {
-        match Names::new(alloc) {
-            Ok(names) => self.until_made(stage, alloc, count, &names),
-            Err(_) => Err(Stop::Memory),
-        }
-    }
-
-    // Goes on with so many layers. Where the registry can't be made, they are dropped with it and made anew.
-    fn until_made<R: Print + Wait>(
-        self,
-        stage: &Stage<R>,
-        alloc: Global,
-        count: usize,
-        names: &Names,
-    ) -> Result<(), Stop> {
-        for _ in 0..TRIES {
-            match with_layers::run(stage, alloc, self, count, names) {
-                Err(Stop::Memory) => {}
-                ended => return ended,
-            }
-        }
-        Err(stage.refused_too_often("new"))
+        let ring = if matches!(self, Row::FullRing) {
+            1
+        } else {
+            1024
+        };
+        let given = Given::new(alloc, ring)?;
+        with_layers::run(stage, alloc, self, count, &given)
     }
 }

@@ -1,5 +1,6 @@
 //! Metas, fields, notes and rules, and how they are looked at.
 
+use crate::stop::Stop;
 use span_forest::Span;
 use span_id::{Field, Fields, Id, Level, Meta, SharedMeta};
 use span_layers::{
@@ -11,7 +12,7 @@ use std::alloc::{AllocError, Global};
 use std::sync::ArcStr;
 
 /// What a span or an event of target `app` is known by.
-pub(crate) fn meta_of(alloc: Global, name: &str, level: Level) -> Result<Meta, AllocError> {
+pub(crate) fn meta_of(alloc: Global, name: &str, level: Level) -> Result<Meta, Stop> {
     Ok(Meta {
         name: String::from_str(alloc, name)?,
         target: String::from_str(alloc, "app")?,
@@ -20,7 +21,7 @@ pub(crate) fn meta_of(alloc: Global, name: &str, level: Level) -> Result<Meta, A
 }
 
 /// One field.
-pub(crate) fn field_of(alloc: Global, key: &str, value: &str) -> Result<Field, AllocError> {
+pub(crate) fn field_of(alloc: Global, key: &str, value: &str) -> Result<Field, Stop> {
     Ok(Field {
         key: String::from_str(alloc, key)?,
         value: String::from_str(alloc, value)?,
@@ -28,7 +29,7 @@ pub(crate) fn field_of(alloc: Global, key: &str, value: &str) -> Result<Field, A
 }
 
 /// Fields.
-pub(crate) fn fields_of(alloc: Global, pairs: &[(&str, &str)]) -> Result<Vec<Field>, AllocError> {
+pub(crate) fn fields_of(alloc: Global, pairs: &[(&str, &str)]) -> Result<Vec<Field>, Stop> {
     let mut fields = Vec::new(alloc);
     for (key, value) in pairs {
         fields.push(field_of(alloc, key, value)?)?;
@@ -37,22 +38,17 @@ pub(crate) fn fields_of(alloc: Global, pairs: &[(&str, &str)]) -> Result<Vec<Fie
 }
 
 /// What spans of this name are known by, which several owners may share.
-pub(crate) fn shared_meta_of(alloc: Global, name: &str) -> Result<SharedMeta, AllocError> {
-    let meta = meta_of(alloc, name, Level::Info)?;
-    SharedMeta::copy_of(alloc, &meta).map_err(|_| AllocError)
+pub(crate) fn shared_meta_of(alloc: Global, name: &str) -> Result<SharedMeta, Stop> {
+    Ok(SharedMeta::new(alloc, meta_of(alloc, name, Level::Info)?)?)
 }
 
 /// Fields that several owners may share.
-pub(crate) fn shared_fields_of(
-    alloc: Global,
-    pairs: &[(&str, &str)],
-) -> Result<Fields, AllocError> {
-    let fields = fields_of(alloc, pairs)?;
-    Fields::copy_of(alloc, fields.as_slice()).map_err(|_| AllocError)
+pub(crate) fn shared_fields_of(alloc: Global, pairs: &[(&str, &str)]) -> Result<Fields, Stop> {
+    Ok(Fields::new(alloc, fields_of(alloc, pairs)?)?)
 }
 
 /// The tellers of one layer that has no closures and writes plain text.
-pub(crate) fn plain_tellers(alloc: Global) -> Result<Tellers<ByForm>, AllocError> {
+pub(crate) fn plain_tellers(alloc: Global) -> Result<Tellers<ByForm>, Stop> {
     let style = Style {
         form: Form::Compact,
         spans: FmtSpan::FULL,
@@ -65,7 +61,7 @@ pub(crate) fn plain_tellers(alloc: Global) -> Result<Tellers<ByForm>, AllocError
     let mut layers = Layers::<ByRule, ByForm>::new(alloc);
     match layers.add(layer) {
         Ok(_) => Ok(layers.split().1),
-        Err(_) => Err(AllocError),
+        Err(_) => Err(Stop::Memory),
     }
 }
 
@@ -75,7 +71,7 @@ pub(crate) fn note_of(
     layer: u32,
     kind: Kind,
     fields: &[(&str, &str)],
-) -> Result<Note, AllocError> {
+) -> Result<Note, Stop> {
     let (id, path) = place_of(kind);
     let path = ArcStr::from_str(alloc, path)?;
     let fields = shared_fields_of(alloc, fields)?;
@@ -100,31 +96,12 @@ fn place_of(kind: Kind) -> (u64, &'static str) {
 }
 
 // What only the note of an event has.
-fn tail_of(alloc: Global, kind: Kind) -> Result<Option<(Level, ArcStr)>, AllocError> {
+fn tail_of(alloc: Global, kind: Kind) -> Result<Option<(Level, ArcStr)>, Stop> {
     if kind == Kind::OnEvent {
         Ok(Some((Level::Warn, ArcStr::from_str(alloc, "x\ny")?)))
     } else {
         Ok(None)
     }
-}
-
-// Adds the meta to a text, on a line of its own.
-fn add_meta(text: &mut String, meta: &Meta) -> Result<(), AllocError> {
-    let Meta {
-        name,
-        target,
-        level,
-    } = meta;
-    write!(text, "\n{name} {target} {level}")
-}
-
-/// Adds the fields to a text.
-pub(crate) fn add_fields(text: &mut String, fields: &[Field]) -> Result<(), AllocError> {
-    for field in fields {
-        let Field { key, value } = field;
-        write!(text, " {key}={value}")?;
-    }
-    Ok(())
 }
 
 /// Adds numbers to a text.
@@ -157,20 +134,7 @@ pub(crate) fn add_stack(text: &mut String, stack: &SpanStack) -> Result<(), Allo
 
 /// Adds all that an open span shows to a text.
 pub(crate) fn add_span(text: &mut String, span: &Span) -> Result<(), AllocError> {
-    let Span {
-        meta,
-        fields,
-        parent,
-        bits,
-        handles,
-        entries,
-        count,
-    } = span;
-    add_meta(text, meta.as_meta())?;
-    add_fields(text, fields.as_slice())?;
-    add_id(text, *parent)?;
-    let (handles, entries) = (u64::from(*handles), u64::from(*entries));
-    add_numbers(text, &[bits.0, handles, entries, u64::from(*count)])
+    write!(text, "\n{span:?}")
 }
 
 /// The bytes of a text.

@@ -1,5 +1,4 @@
 //! Calls that may be refused memory: made, compared where they are refused, and made again.
-ghost use Rattle.std.specs.Prelude.{◌≡◌};
 
 use crate::answer::Answer;
 use crate::stage::{Memory, Stage, TRIES};
@@ -68,25 +67,44 @@ fn once<A, S: Subject<A>, R: Print>(
     subject: &mut S,
     planned: &Planned<'_, A>,
 ) -> Tried {
+    match look_at(alloc, subject) {
+        Ok(before) => beside(stage, alloc, subject, planned, before.as_str()),
+        Err(_) => Tried::Stopped(Stop::Memory),
+    }
+}
+
+// The same, where this could be looked at before.
+fn beside<A, S: Subject<A>, R: Print>(
+    stage: &Stage<R>,
+    alloc: Global,
+    subject: &mut S,
+    planned: &Planned<'_, A>,
+    before: &str,
+) -> Tried {
     let (name, memory, act) = planned;
-    let Ok(before) = look_at(alloc, subject) else {
-        return Tried::Stopped(Stop::Memory);
-    };
     stage.begin(*memory);
     let answer = subject.call(act);
     stage.over();
     match answer {
-        Ok(answer) => tell(stage, name, &answer),
-        Err(fault) => match is_changed(alloc, subject, before.as_str()) {
+        Ok(answer) => {
+            tell(stage, name, &answer);
+            Tried::Told
+        }
+        Err(fault) => match is_changed(alloc, subject, before) {
             Ok(changed) => judge(stage, name, *memory, fault, changed),
             Err(_) => Tried::Stopped(Stop::Memory),
         },
     }
 }
 
-fn tell<R: Print>(stage: &Stage<R>, name: &str, answer: &Answer) -> Tried {
+/// Tells what a call answered.
+pub(crate) fn tell<R: Print>(stage: &Stage<R>, name: &str, answer: &Answer) {
     stage.wrote(println!(stage.rt; "{name}: {answer}"));
-    Tried::Told
+}
+
+/// Tells that a call was refused, for another reason than memory.
+pub(crate) fn tell_refused<R: Print>(stage: &Stage<R>, name: &str, fault: Fault) {
+    stage.wrote(println!(stage.rt; "{name}: ! {fault}"));
 }
 
 // A refused call changes nothing, and one that takes no memory isn't refused any.
@@ -101,7 +119,8 @@ fn judge<R: Print>(
         return Tried::Stopped(stage.changed(name));
     }
     if fault != Fault::Memory {
-        return tell(stage, name, &Answer::Refused(fault));
+        tell_refused(stage, name, fault);
+        return Tried::Told;
     }
     match memory {
         Memory::Taken => Tried::Refused,
@@ -125,37 +144,4 @@ fn is_changed<A, S: Subject<A>>(
     before: &str,
 ) -> Result<bool, AllocError> {
     Ok(look_at(alloc, subject)?.as_str() != before)
-}
-
-/// Makes a value, and makes it again where memory was refused.
-pub(crate) fn made<T: Drop, F: Fn() -> Result<T, Fault>, R: Print>(
-    stage: &Stage<R>,
-    name: &str,
-    make: F,
-) -> Result<T, Stop>
-    requires { F.IsAlwaysCallable make }
-{
-    for _ in 0..TRIES {
-        stage.begin(Memory::Taken);
-        let value = make();
-        stage.over();
-        match value {
-            Ok(value) => return Ok(value),
-            Err(fault) => again(stage, name, Memory::Taken, fault)?,
-        }
-    }
-    Err(stage.refused_too_often(name))
-}
-
-/// What a refusal means: a call that takes memory and was refused it is made again, any other ends the row.
-pub(crate) fn again<R: Print>(
-    stage: &Stage<R>,
-    name: &str,
-    memory: Memory,
-    fault: Fault,
-) -> Result<(), Stop> {
-    match (memory, fault) {
-        (Memory::Taken, Fault::Memory) => Ok(()),
-        _ => Err(stage.refused(name)),
-    }
 }

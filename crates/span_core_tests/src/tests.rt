@@ -1,7 +1,6 @@
 //! The calls of a core run, with their answers and the lines of their notes.
 mod acts;
 mod answers;
-mod by_turns;
 mod chain;
 mod closing_lists;
 mod compare;
@@ -9,6 +8,7 @@ mod deep_stack;
 mod holding;
 mod hooks;
 mod levels;
+mod many;
 mod missed;
 mod on_a_ring;
 mod owners;

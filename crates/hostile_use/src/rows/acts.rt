@@ -1,24 +1,31 @@
 //! Calls on spans, as data.
+ghost use Rattle.std.specs.Prelude.{◌≡◌};
 
 use crate::named::Named;
+use crate::stop::Stop;
 use crate::texts::{fields_of, meta_of};
-use span_id::{Field, Level, Meta};
+use span_id::{Checked, Field, Level, Limits, Meta};
 use span_outlet::ParentOf;
-use std::alloc::{AllocError, Global};
+use std::alloc::Global;
 
 /// A call; handles are named by the ids of their spans.
-#[derive(Clone, Copy)]
 pub(crate) enum Act {
     New(Called, Place),
     Clone(Named),
     Enter(Named),
     Exit(Named),
     Close(Named),
-    /// With the fields of `Names`.
+    /// With the fields of `Given`.
     Record(Named),
-    /// With `MESSAGE`, and the same under a span.
+    /// With `MESSAGE`; the same with the fields of `Given`, and under a span.
     Event,
+    EventWithFields,
     EventIn(Named),
+    Ask(Question),
+}
+
+/// What is asked of spans.
+pub(crate) enum Question {
     Find(Named),
     OpenSpans,
     HeldSpans,
@@ -31,7 +38,6 @@ pub(crate) enum Act {
 pub(crate) const MESSAGE: &str = "m";
 
 /// What a span is called.
-#[derive(Clone, Copy)]
 pub(crate) enum Called {
     A,
     B,
@@ -56,19 +62,33 @@ impl Place {
     }
 }
 
-/// What spans and events are called, and their fields.
+/// What calls are given: what spans and events are called, and their fields; and the limits, with one worker.
 #[derive(Drop)]
-pub(crate) struct Names {
+pub(crate) struct Given {
+    pub(crate) checked: Checked,
     a: Meta,
     b: Meta,
     pub(crate) event: Meta,
     pub(crate) fields: Vec<Field>,
+    ghost one_worker: { checked.workers ≡ 1 },
 }
 
-impl Names {
-    /// The spans `a` and `b`, the event `event` and the field `k=v`.
-    pub(crate) fn new(alloc: Global) -> Result<Names, AllocError> {
-        Ok(Names {
+impl Given {
+    /// The spans `a` and `b`, the event `event` and the field `k=v`; a ring has so many places.
+    pub(crate) fn new(alloc: Global, ring: u32) -> Result<Given, Stop> {
+        let limits = Limits {
+            workers: 1,
+            ring,
+            ..Limits::default()
+        };
+        Given::with(alloc, limits.check()?)
+    }
+
+    fn with(alloc: Global, checked: Checked) -> Result<Given, Stop>
+        requires { checked.workers ≡ 1 }
+    {
+        Ok(Given {
+            checked,
             a: meta_of(alloc, "a", Level::Info)?,
             b: meta_of(alloc, "b", Level::Info)?,
             event: meta_of(alloc, "event", Level::Info)?,
@@ -77,10 +97,17 @@ impl Names {
     }
 
     /// What a span is made with.
-    pub(crate) fn meta(&self, called: Called) -> &Meta {
+    pub(crate) fn meta(&self, called: &Called) -> &Meta {
         match called {
             Called::A => &self.a,
             Called::B => &self.b,
+        }
+    }
+    /// The fields of an event.
+    pub(crate) fn fields_of(&self, act: &Act) -> &[Field] {
+        match act {
+            Act::EventWithFields => self.fields.as_slice(),
+            _ => &[],
         }
     }
 }

@@ -1,15 +1,18 @@
 //! Texts that are appended to buffers.
 
-use crate::stage::{Memory, Stage, TRIES};
+use crate::answer::Answer;
+use crate::stage::Memory::{Taken, Untouched};
+use crate::stage::Stage;
 use crate::stop::Stop;
-use crate::texts::{note_of, shown};
-use crate::trial::again;
+use crate::texts::note_of;
+use crate::trial::{Planned, Subject, attempt};
 use span_id::Fault;
-use span_layers::{Form, Kind, Note, Say, text_onto};
+use span_layers::Form::{self, Compact, Json};
+use span_layers::{Kind, Note, Say, text_onto};
 use std::alloc::{AllocError, Global};
+use std::mem;
 
 /// What appends the text of a note.
-#[derive(Clone, Copy)]
 enum Way {
     /// `text_onto`.
     Text,
@@ -17,78 +20,51 @@ enum Way {
     Say,
 }
 
-/// A text that is appended to a buffer.
-struct Appending {
-    /// What the call is called.
-    name: &'static str,
-    way: Way,
-    form: Form,
-    /// What the buffer holds before.
-    held: &'static str,
-    /// How much room it has at least.
-    room: usize,
-    /// Whether the call takes memory.
-    memory: Memory,
-}
+/// A text that is appended to a buffer, which holds so much before, and has so much room at least.
+struct Appending(Way, Form, &'static str, usize);
 
-static APPENDED: [Appending; 7] = [
-    Appending {
-        name: "text onto nothing",
-        way: Way::Text,
-        form: Form::Compact,
-        held: "",
-        room: 0,
-        memory: Memory::Taken,
-    },
-    Appending {
-        name: "text onto some",
-        way: Way::Text,
-        form: Form::Compact,
-        held: "held ",
-        room: 0,
-        memory: Memory::Taken,
-    },
-    Appending {
-        name: "text onto some",
-        way: Way::Text,
-        form: Form::Json,
-        held: "held ",
-        room: 0,
-        memory: Memory::Taken,
-    },
-    Appending {
-        name: "text where there is room",
-        way: Way::Text,
-        form: Form::Compact,
-        held: "held ",
-        room: 64,
-        memory: Memory::Untouched,
-    },
-    Appending {
-        name: "text where there is room",
-        way: Way::Text,
-        form: Form::Json,
-        held: "",
-        room: 256,
-        memory: Memory::Untouched,
-    },
-    Appending {
-        name: "say onto nothing",
-        way: Way::Say,
-        form: Form::Json,
-        held: "",
-        room: 0,
-        memory: Memory::Taken,
-    },
-    Appending {
-        name: "say onto some",
-        way: Way::Say,
-        form: Form::Compact,
-        held: "held ",
-        room: 0,
-        memory: Memory::Taken,
-    },
+static APPENDED: [Planned<'static, Appending>; 7] = [
+    (
+        "text onto nothing",
+        Taken,
+        Appending(Way::Text, Compact, "", 0),
+    ),
+    (
+        "text onto some",
+        Taken,
+        Appending(Way::Text, Compact, "held ", 0),
+    ),
+    (
+        "text onto some",
+        Taken,
+        Appending(Way::Text, Json, "held ", 0),
+    ),
+    (
+        "text where there is room",
+        Untouched,
+        Appending(Way::Text, Compact, "held ", 64),
+    ),
+    (
+        "text where there is room",
+        Untouched,
+        Appending(Way::Text, Json, "", 256),
+    ),
+    ("say onto nothing", Taken, Appending(Way::Say, Json, "", 0)),
+    (
+        "say onto some",
+        Taken,
+        Appending(Way::Say, Compact, "held ", 0),
+    ),
 ];
+
+/// A note, and the buffer to which its text is appended.
+#[derive(Drop)]
+struct OnBuffer<'a, S> {
+    alloc: Global,
+    formatters: &'a S,
+    note: &'a Note,
+    out: Vec<u8>,
+}
 
 /// Appends the text of a note in each way.
 pub(crate) fn run<S: Say, R: Print>(
@@ -97,63 +73,48 @@ pub(crate) fn run<S: Say, R: Print>(
     formatters: &S,
 ) -> Result<(), Stop> {
     let note = note_of(alloc, 0, Kind::OnEvent, &[("k", "v")])?;
-    for appending in &APPENDED {
-        append(stage, alloc, formatters, &note, appending)?;
+    let mut subject = OnBuffer {
+        alloc,
+        formatters,
+        note: &note,
+        out: Vec::new(alloc),
+    };
+    append_all(stage, alloc, &mut subject)
+}
+
+fn append_all<S: Say, R: Print>(
+    stage: &Stage<R>,
+    alloc: Global,
+    subject: &mut OnBuffer<'_, S>,
+) -> Result<(), Stop> {
+    for planned in &APPENDED {
+        let (_, _, Appending(_, _, held, room)) = planned;
+        subject.out = buffer(alloc, held, *room)?;
+        attempt(stage, alloc, subject, planned)?;
     }
     Ok(())
 }
 
-// Appends a text. Where that was refused memory the buffer holds what it held, and the call is made again.
-fn append<S: Say, R: Print>(
-    stage: &Stage<R>,
-    alloc: Global,
-    formatters: &S,
-    note: &Note,
-    appending: &Appending,
-) -> Result<(), Stop> {
-    let mut out = buffer(alloc, appending)?;
-    for _ in 0..TRIES {
-        stage.begin(appending.memory);
-        let appended = append_once(formatters, note, appending, &mut out);
-        stage.over();
-        match appended {
-            Ok(()) => {
-                tell(stage, appending.name, out.as_slice());
-                return Ok(());
-            }
-            Err(_) => judge(stage, appending, out.as_slice())?,
-        }
-    }
-    Err(stage.refused_too_often(appending.name))
-}
-
 // The buffer as it is before.
-fn buffer(alloc: Global, appending: &Appending) -> Result<Vec<u8>, AllocError> {
-    let mut out = Vec::with_capacity(alloc, appending.room)?;
-    out.extend_from_slice(appending.held.as_bytes())?;
+fn buffer(alloc: Global, held: &str, room: usize) -> Result<Vec<u8>, AllocError> {
+    let mut out = Vec::with_capacity(alloc, room)?;
+    out.extend_from_slice(held.as_bytes())?;
     Ok(out)
 }
 
-fn append_once<S: Say>(
-    formatters: &S,
-    note: &Note,
-    appending: &Appending,
-    out: &mut Vec<u8>,
-) -> Result<(), AllocError> {
-    match appending.way {
-        Way::Text => text_onto(appending.form, note, out),
-        Way::Say => formatters.say_onto(appending.form, note, out),
+impl<'a, S: Say> Subject<Appending> for OnBuffer<'a, S> {
+    // Hands the buffer out.
+    fn call(&mut self, appending: &Appending) -> Result<Answer, Fault> {
+        let Appending(way, form, _, _) = appending;
+        match way {
+            Way::Text => text_onto(*form, self.note, &mut self.out)?,
+            Way::Say => self.formatters.say_onto(*form, self.note, &mut self.out)?,
+        }
+        let out = mem::replace(&mut self.out, Vec::new(self.alloc));
+        Ok(Answer::Bytes(out))
     }
-}
 
-// What a refusal means: nothing where the call takes memory and the buffer holds what it held.
-fn judge<R: Print>(stage: &Stage<R>, appending: &Appending, out: &[u8]) -> Result<(), Stop> {
-    if out != appending.held.as_bytes() {
-        return Err(stage.changed(appending.name));
+    fn look(&mut self, text: &mut String) -> Result<(), AllocError> {
+        write!(text, "{:?} {:?}", self.note, self.out)
     }
-    again(stage, appending.name, appending.memory, Fault::Memory)
-}
-
-fn tell<R: Print>(stage: &Stage<R>, name: &str, out: &[u8]) {
-    stage.wrote(println!(stage.rt; "{name}: {}", shown(out)));
 }

@@ -2,13 +2,16 @@
 ghost use Rattle.std.specs.Prelude.{◌≡◌, ◌+◌, ◌-◌, ◌^◌, vec_len, sum_by};
 ghost use Rattle.hostile_use.specs.Units.{units_in};
 
-use crate::answer::{Answer, details, done, holders, spans, workers, yes_or_no};
-use crate::rows::acts::{Act, MESSAGE, Names};
+use crate::answer::{Answer, done};
+use crate::rows::acts::Question::{
+    self, Find, HeldSpans, HoldersOf, OpenSpans, SpanDetails, WorkersInside,
+};
+use crate::rows::acts::{Act, Given, MESSAGE};
 use crate::rows::hands::Hands;
 use span_id::{Fault, Field, Id, Meta};
 use span_layers::Admit;
 use span_outlet::{Outlet, ParentOf};
-use span_registry::{DroppableHandle, Handle, Registry, Setup, Worker};
+use span_registry::{DroppableHandle, Handle, RefusedClose, Registry, Setup, Worker};
 use std::alloc::Global;
 use std::sync::Wait;
 use std::sync::ledger::Ledger;
@@ -36,35 +39,24 @@ impl<H: Ledger, C: Ledger, S: Setup> Caller<H, C, S> {
         rt: &R,
         alloc: Global,
         registry: &Registry<H, C, S, O, A>,
-        names: &Names,
-        act: Act,
+        given: &Given,
+        act: &Act,
     ) -> Result<Answer, Fault> {
         match act {
-            Act::New(called, place) => {
-                self.new_span(rt, registry, names.meta(called), place.parent())
-            }
+            Act::New(called, place) => self.new_span(
+                rt,
+                registry,
+                given.meta(called),
+                place.parent(),
+            ),
             Act::Clone(named) => self.clone_span(rt, registry, named.id()),
             Act::Enter(named) => self.lend(rt, registry, named.id(), Lent::Enter),
             Act::Record(named) => {
-                let fields = names.fields.as_slice();
+                let fields = given.fields.as_slice();
                 self.lend(rt, registry, named.id(), Lent::Record(fields))
             }
-            Act::Exit(named) => self.exit(rt, registry, named.id()),
             Act::Close(named) => self.try_close(rt, registry, named.id()),
-            Act::Event => self.event(rt, registry, &names.event, ParentOf::Current),
-            Act::EventIn(named) => {
-                self.event(rt, registry, &names.event, ParentOf::Of(named.id()))
-            }
-            Act::Find(named) => find(rt, alloc, registry, &mut self.worker, named.id()),
-            Act::OpenSpans => spans(registry.open_spans(rt, &mut self.worker)),
-            Act::HeldSpans => holders(registry.held_spans(rt, &mut self.worker)),
-            Act::HoldersOf(named) => {
-                holders(registry.holders_of(rt, &mut self.worker, named.id()))
-            }
-            Act::WorkersInside(named) => {
-                workers(registry.workers_inside(rt, &mut self.worker, named.id()))
-            }
-            Act::SpanDetails => details(registry.span_details(rt, &mut self.worker)),
+            _ => with_no_handle(rt, alloc, registry, &mut self.worker, given, act),
         }
     }
 
@@ -130,25 +122,6 @@ impl<H: Ledger, C: Ledger, S: Setup> Caller<H, C, S> {
         answer
     }
 
-    fn exit<O: Outlet, A: Admit, R: Wait>(
-        &mut self,
-        rt: &R,
-        registry: &Registry<H, C, S, O, A>,
-        id: Id,
-    ) -> Result<Answer, Fault> {
-        yes_or_no(registry.exit(rt, &mut self.worker, id))
-    }
-
-    fn event<O: Outlet, A: Admit, R: Wait>(
-        &mut self,
-        rt: &R,
-        registry: &Registry<H, C, S, O, A>,
-        meta: &Meta,
-        parent: ParentOf,
-    ) -> Result<Answer, Fault> {
-        done(registry.event_in(rt, &mut self.worker, meta, MESSAGE, &[], parent))
-    }
-
     // Gives a handle back. Where that is refused, the handle that comes back is kept.
     fn try_close<O: Outlet, A: Admit, R: Wait>(
         &mut self,
@@ -161,7 +134,7 @@ impl<H: Ledger, C: Ledger, S: Setup> Caller<H, C, S> {
         };
         match registry.try_close(rt, &mut self.worker, held.into_handle()) {
             Ok(closed) => Ok(Answer::Yes(closed)),
-            Err((handle, fault)) => {
+            Err(RefusedClose { handle, fault }) => {
                 self.hands.put(DroppableHandle { handle });
                 Err(fault)
             }
@@ -180,24 +153,57 @@ fn with_handle<H: Ledger, C: Ledger, S: Setup, O: Outlet, A: Admit, R: Wait>(
     ensures { worker.new.spare ≡ worker.old.spare }
 {
     match call {
-        Lent::Enter => yes_or_no(registry.enter(rt, worker, handle)),
+        Lent::Enter => registry.enter(rt, worker, handle).map(Answer::Yes),
         Lent::Record(fields) => done(registry.record(rt, worker, handle, fields)),
     }
 }
 
-fn find<H: Ledger, C: Ledger, S: Setup, O: Outlet, A: Admit, R: Wait>(
+// A call with no handle: an exit, a question or an event.
+fn with_no_handle<H: Ledger, C: Ledger, S: Setup, O: Outlet, A: Admit, R: Wait>(
     rt: &R,
     alloc: Global,
     registry: &Registry<H, C, S, O, A>,
     worker: &mut Worker<H, C, S>,
-    id: Id,
+    given: &Given,
+    act: &Act,
 ) -> Result<Answer, Fault>
     ensures { worker.new.spare ≡ worker.old.spare }
 {
-    match registry.find(rt, alloc, worker, id) {
-        Ok(Some(found)) => Ok(Answer::Found(found)),
-        Ok(None) => Ok(Answer::Nothing),
-        Err(fault) => Err(fault),
+    let parent = match act {
+        Act::Exit(named) => return registry.exit(rt, worker, named.id()).map(Answer::Yes),
+        Act::Ask(question) => return ask(rt, alloc, registry, worker, question),
+        Act::EventIn(named) => ParentOf::Of(named.id()),
+        _ => ParentOf::Current,
+    };
+    let fields = given.fields_of(act);
+    done(registry.event_in(rt, worker, &given.event, MESSAGE, fields, parent))
+}
+
+fn ask<H: Ledger, C: Ledger, S: Setup, O: Outlet, A: Admit, R: Wait>(
+    rt: &R,
+    alloc: Global,
+    registry: &Registry<H, C, S, O, A>,
+    worker: &mut Worker<H, C, S>,
+    question: &Question,
+) -> Result<Answer, Fault>
+    ensures { worker.new.spare ≡ worker.old.spare }
+{
+    match question {
+        Find(named) => match registry.find(rt, alloc, worker, named.id()) {
+            Ok(Some(found)) => Ok(Answer::Found(found)),
+            Ok(None) => Ok(Answer::Nothing),
+            Err(fault) => Err(fault),
+        },
+        OpenSpans => registry.open_spans(rt, worker).map(Answer::Spans),
+        HeldSpans => registry.held_spans(rt, worker).map(Answer::Holders),
+        HoldersOf(named) => registry
+            .holders_of(rt, worker, named.id())
+            .map(Answer::Holders),
+        WorkersInside(named) => {
+            let inside = registry.workers_inside(rt, worker, named.id());
+            inside.map(Answer::Workers)
+        }
+        SpanDetails => registry.span_details(rt, worker).map(Answer::Details),
     }
 }
 

@@ -1,45 +1,45 @@
 //! A meta and fields, copied, also to be shared and over earlier fields.
 
-use crate::stage::{Memory, Stage, TRIES};
+use crate::answer::Answer;
+use crate::rows::Row;
+use crate::stage::Memory::{self, Taken, Untouched};
+use crate::stage::{Stage, TRIES};
 use crate::stop::Stop;
-use crate::texts::{add_fields, fields_of, meta_of, shared_fields_of};
-use crate::trial::{again, made};
-use span_id::{Field, Fields, Level, Meta, SharedMeta};
-use std::alloc::Global;
+use crate::texts::{fields_of, meta_of, shared_fields_of};
+use crate::trial::{Planned, Subject, perform, tell};
+use span_id::{Fault, Field, Fields, Level, Meta, SharedMeta};
+use std::alloc::{AllocError, Global};
 
-/// Copies a meta, for an owner of its own and to be shared.
-pub(crate) fn run_meta<R: Print>(stage: &Stage<R>, alloc: Global) -> Result<(), Stop> {
-    let meta = meta_of(alloc, "a", Level::Info)?;
-    match meta_of(alloc, "a", Level::Info) {
-        Ok(before) => copy_meta(stage, alloc, &meta, &before),
-        Err(_) => Err(Stop::Memory),
-    }
+/// What is copied.
+enum Act {
+    Meta,
+    /// The meta, to be shared.
+    SharedMeta,
+    /// The field at this place.
+    Field(usize),
+    /// The fields, to be shared.
+    Fields,
+    /// The fields, over some that have another owner, who keeps them.
+    OverShared,
+    /// Nothing: what that other owner has is told.
+    TheirOwner,
 }
 
-fn copy_meta<R: Print>(
-    stage: &Stage<R>,
-    alloc: Global,
-    meta: &Meta,
-    before: &Meta,
-) -> Result<(), Stop> {
-    let copy = made(stage, "copy", || meta.copy(alloc))?;
-    if *meta != *before {
-        return Err(stage.changed("copy"));
-    }
-    tell_meta(stage, "copy", &copy);
-    let shared = made(stage, "copy to share", || SharedMeta::copy_of(alloc, meta))?;
-    tell_meta(stage, "copy to share", shared.as_meta());
-    Ok(())
-}
+static META: [Planned<'static, Act>; 2] = [
+    ("copy", Taken, Act::Meta),
+    ("copy to share", Taken, Act::SharedMeta),
+];
 
-fn tell_meta<R: Print>(stage: &Stage<R>, call: &str, meta: &Meta) {
-    let Meta {
-        name,
-        target,
-        level,
-    } = meta;
-    stage.wrote(println!(stage.rt; "{call}: {name} {target} {level}"));
-}
+static FIELD: [Planned<'static, Act>; 3] = [
+    ("copy", Taken, Act::Field(0)),
+    ("copy", Taken, Act::Field(1)),
+    ("copy to share", Taken, Act::Fields),
+];
+
+static OVER_SHARED: [Planned<'static, Act>; 2] = [
+    ("copy over shared", Taken, Act::OverShared),
+    ("their other owner", Untouched, Act::TheirOwner),
+];
 
 /// Earlier fields of one owner, over which others are copied.
 struct Earlier {
@@ -54,49 +54,83 @@ static EARLIER: [Earlier; 3] = [
     Earlier {
         name: "copy over shorter texts",
         pairs: &[("", ""), ("", "")],
-        memory: Memory::Taken,
+        memory: Taken,
     },
     Earlier {
         name: "copy over longer texts",
         pairs: &[("key", "one"), ("key", "two")],
-        memory: Memory::Untouched,
+        memory: Untouched,
     },
     Earlier {
         name: "copy over fewer",
         pairs: &[("k", "3")],
-        memory: Memory::Taken,
+        memory: Taken,
     },
 ];
 
-/// Copies two fields, each for an owner of its own, and both to be shared.
-pub(crate) fn run_field<R: Print>(stage: &Stage<R>, alloc: Global) -> Result<(), Stop> {
-    match fields_of(alloc, &[("k", "1"), ("k", "2")]) {
-        Ok(fields) => copy_fields(stage, alloc, fields.as_slice()),
-        Err(_) => Err(Stop::Memory),
+/// A meta, two fields, and some that have another owner.
+#[derive(Drop)]
+struct Copied<'a> {
+    alloc: Global,
+    meta: &'a Meta,
+    fields: &'a [Field],
+    owned: &'a Fields,
+}
+
+/// Makes the row's copies, and tells what they are.
+pub(crate) fn run<R: Print>(stage: &Stage<R>, alloc: Global, row: Row) -> Result<(), Stop> {
+    let meta = meta_of(alloc, "a", Level::Info)?;
+    let fields = fields_of(alloc, &[("k", "1"), ("k", "2")])?;
+    let owned = shared_fields_of(alloc, &[("k", "3"), ("k", "4")])?;
+    let mut copied = Copied {
+        alloc,
+        meta: &meta,
+        fields: fields.as_slice(),
+        owned: &owned,
+    };
+    copy(stage, alloc, row, &mut copied)
+}
+
+fn copy<R: Print>(
+    stage: &Stage<R>,
+    alloc: Global,
+    row: Row,
+    copied: &mut Copied<'_>,
+) -> Result<(), Stop> {
+    match row {
+        Row::Meta => perform(stage, alloc, copied, &META),
+        Row::Field => perform(stage, alloc, copied, &FIELD),
+        _ => {
+            for earlier in &EARLIER {
+                copy_over(stage, alloc, copied.fields, earlier)?;
+            }
+            perform(stage, alloc, copied, &OVER_SHARED)
+        }
     }
 }
 
-fn copy_fields<R: Print>(stage: &Stage<R>, alloc: Global, fields: &[Field]) -> Result<(), Stop> {
-    for field in fields {
-        copy_field(stage, alloc, field)?;
+impl<'a> Subject<Act> for Copied<'a> {
+    fn call(&mut self, act: &Act) -> Result<Answer, Fault> {
+        let alloc = self.alloc;
+        match act {
+            Act::Meta => self.meta.copy(alloc).map(Answer::Meta),
+            Act::SharedMeta => SharedMeta::copy_of(alloc, self.meta).map(Answer::SharedMeta),
+            Act::Field(place) => match self.fields.get(*place) {
+                Some(field) => field.copy(alloc).map(Answer::Field),
+                None => Ok(Answer::Nothing),
+            },
+            Act::Fields => Fields::copy_of(alloc, self.fields).map(Answer::Fields),
+            Act::OverShared => {
+                let these = self.owned.share()?;
+                these.copy_over(alloc, self.fields).map(Answer::Fields)
+            }
+            Act::TheirOwner => self.owned.share().map(Answer::Fields),
+        }
     }
-    let shared = made(stage, "copy to share", || Fields::copy_of(alloc, fields))?;
-    tell_fields(stage, alloc, "copy to share", shared.as_slice())
-}
 
-/// Copies two fields over earlier ones.
-pub(crate) fn run_over<R: Print>(stage: &Stage<R>, alloc: Global) -> Result<(), Stop> {
-    match fields_of(alloc, &[("k", "1"), ("k", "2")]) {
-        Ok(fields) => copy_over_each(stage, alloc, fields.as_slice()),
-        Err(_) => Err(Stop::Memory),
+    fn look(&mut self, text: &mut String) -> Result<(), AllocError> {
+        write!(text, "{:?} {:?} {:?}", self.meta, self.fields, self.owned)
     }
-}
-
-fn copy_over_each<R: Print>(stage: &Stage<R>, alloc: Global, fields: &[Field]) -> Result<(), Stop> {
-    for earlier in &EARLIER {
-        copy_over(stage, alloc, fields, earlier)?;
-    }
-    copy_over_shared(stage, alloc, fields)
 }
 
 // Copies the fields over earlier ones, which are gone where that was refused and are made anew.
@@ -111,45 +145,25 @@ fn copy_over<R: Print>(
         stage.begin(earlier.memory);
         let copy = these.copy_over(alloc, fields);
         stage.over();
-        match copy {
-            Ok(copy) => return tell_fields(stage, alloc, earlier.name, copy.as_slice()),
-            Err(fault) => again(stage, earlier.name, earlier.memory, fault)?,
+        if let Some(ended) = copied_over(stage, earlier, copy) {
+            return ended;
         }
     }
     Err(stage.refused_too_often(earlier.name))
 }
 
-// Copies the fields over some that have another owner, who keeps them.
-fn copy_over_shared<R: Print>(
+// What such a copy means: nothing where it was refused memory that it may take.
+fn copied_over<R: Print>(
     stage: &Stage<R>,
-    alloc: Global,
-    fields: &[Field],
-) -> Result<(), Stop> {
-    let owned = shared_fields_of(alloc, &[("k", "3"), ("k", "4")])?;
-    let copy = made(stage, "copy over shared", || {
-        owned.share()?.copy_over(alloc, fields)
-    })?;
-    tell_fields(stage, alloc, "copy over shared", copy.as_slice())?;
-    tell_fields(stage, alloc, "their other owner", owned.as_slice())
-}
-
-fn copy_field<R: Print>(stage: &Stage<R>, alloc: Global, field: &Field) -> Result<(), Stop> {
-    let copy = made(stage, "copy", || field.copy(alloc))?;
-    if copy != *field {
-        return Err(stage.changed("copy"));
+    earlier: &Earlier,
+    copy: Result<Fields, Fault>,
+) -> Option<Result<(), Stop>> {
+    match copy {
+        Ok(copy) => {
+            tell(stage, earlier.name, &Answer::Fields(copy));
+            Some(Ok(()))
+        }
+        Err(Fault::Memory) if matches!(earlier.memory, Taken) => None,
+        Err(_) => Some(Err(stage.refused(earlier.name))),
     }
-    stage.wrote(println!(stage.rt; "copy: {}={}", copy.key, copy.value));
-    Ok(())
-}
-
-fn tell_fields<R: Print>(
-    stage: &Stage<R>,
-    alloc: Global,
-    call: &str,
-    fields: &[Field],
-) -> Result<(), Stop> {
-    let mut text = String::new(alloc);
-    add_fields(&mut text, fields)?;
-    stage.wrote(println!(stage.rt; "{call}:{text}"));
-    Ok(())
 }

@@ -1,19 +1,18 @@
 //! A span and its child, with what holds them.
 
-use crate::answer::{Answer, done, held, holders, spans};
+use crate::answer::{Answer, done, held};
 use crate::named::Named::{self, One, Two};
 use crate::rows::acts::Called;
 use crate::stage::Memory::{Taken, Untouched};
 use crate::stage::Stage;
 use crate::stop::Stop;
 use crate::texts::{add_id, add_numbers, add_span, shared_fields_of, shared_meta_of};
-use crate::trial::{Planned, Subject, made, perform};
+use crate::trial::{Planned, Subject, perform};
 use span_forest::Forest;
 use span_forest::Holder::{self, Entry, Handle};
 use span_id::{Bits, Fault, Fields, Id, Limits, SharedMeta};
 use std::alloc::{AllocError, Global};
 
-#[derive(Clone, Copy)]
 enum Act {
     Add(Called, Option<Named>),
     Keep(Named, Holder),
@@ -71,7 +70,7 @@ struct Texts {
 
 impl Texts {
     // The spans `a` and `b`, two fields, and no fields.
-    fn new(alloc: Global) -> Result<Texts, AllocError> {
+    fn new(alloc: Global) -> Result<Texts, Stop> {
         Ok(Texts {
             a: shared_meta_of(alloc, "a")?,
             b: shared_meta_of(alloc, "b")?,
@@ -81,7 +80,7 @@ impl Texts {
     }
 
     // What a span is made with: `a` has no fields.
-    fn parts(&self, called: Called) -> (&SharedMeta, &Fields) {
+    fn parts(&self, called: &Called) -> (&SharedMeta, &Fields) {
         match called {
             Called::A => (&self.a, &self.none),
             Called::B => (&self.b, &self.fields),
@@ -98,19 +97,18 @@ struct OnForest<'t> {
 
 /// Makes the calls, and tells what they answer.
 pub(crate) fn run<R: Print>(stage: &Stage<R>, alloc: Global) -> Result<(), Stop> {
-    match Texts::new(alloc) {
-        Ok(texts) => on_forest(stage, alloc, &texts),
-        Err(_) => Err(Stop::Memory),
-    }
+    let texts = Texts::new(alloc)?;
+    on_forest(stage, alloc, &texts)
 }
 
 fn on_forest<R: Print>(stage: &Stage<R>, alloc: Global, texts: &Texts) -> Result<(), Stop> {
-    let Ok(checked) = Limits::default().check() else {
-        return Err(Stop::Memory);
-    };
-    match made(stage, "new", || Forest::new(alloc, &checked)) {
+    let checked = Limits::default().check()?;
+    stage.begin(Taken);
+    let made = Forest::new(alloc, &checked);
+    stage.over();
+    match made {
         Ok(forest) => perform(stage, alloc, &mut OnForest { forest, texts }, &PLAN),
-        Err(stop) => Err(stop),
+        Err(_) => Err(Stop::Memory),
     }
 }
 
@@ -118,19 +116,26 @@ impl<'t> Subject<Act> for OnForest<'t> {
     fn call(&mut self, act: &Act) -> Result<Answer, Fault> {
         let forest = &mut self.forest;
         match act {
-            Act::Add(called, parent) => add(forest, self.texts.parts(*called), *parent),
+            Act::Add(called, parent) => add(forest, self.texts.parts(called), *parent),
             Act::Keep(named, holder) => done(forest.keep(named.id(), *holder)),
-            Act::Closing(named, holder) => spans(forest.closing(named.id(), *holder)),
-            Act::Release(named, holder) => spans(forest.release(named.id(), *holder)),
+            Act::Closing(named, holder) => {
+                forest.closing(named.id(), *holder).map(Answer::Spans)
+            }
+            Act::Release(named, holder) => {
+                forest.release(named.id(), *holder).map(Answer::Spans)
+            }
             Act::WriteFields(named) => {
                 done(forest.write_fields(named.id(), self.texts.fields.as_slice()))
             }
-            Act::Path(layer, named) => path(forest, *layer, named.id()),
-            Act::PathText(layer, named) => path_text(forest, *layer, named.id()),
+            Act::Path(layer, named) => forest.path(*layer, named.id()).map(Answer::Names),
+            Act::PathText(layer, named) => {
+                let path = forest.path_text(*layer, named.id())?;
+                Ok(Answer::Text(path.text))
+            }
             Act::Find(named) => Ok(held(forest.find(named.id()))),
-            Act::OpenSpans => spans(forest.open_spans()),
-            Act::HeldSpans => holders(forest.held_spans()),
-            Act::HoldersOf(named) => holders(forest.holders_of(named.id())),
+            Act::OpenSpans => forest.open_spans().map(Answer::Spans),
+            Act::HeldSpans => forest.held_spans().map(Answer::Holders),
+            Act::HoldersOf(named) => forest.holders_of(named.id()).map(Answer::Holders),
             Act::Len => Ok(Answer::Number(u64::from(forest.len()))),
             Act::Total => Ok(Answer::Number(forest.total())),
             Act::NextId => Ok(Answer::from(forest.next_id())),
@@ -157,22 +162,6 @@ fn add(
     parent: Option<Named>,
 ) -> Result<Answer, Fault> {
     let parent = parent.map(Named::id);
-    match forest.add(meta.share()?, fields.share()?, parent, Bits(1)) {
-        Ok(id) => Ok(Answer::Span(id)),
-        Err(fault) => Err(fault),
-    }
-}
-
-fn path(forest: &Forest, layer: u32, id: Id) -> Result<Answer, Fault> {
-    match forest.path(layer, id) {
-        Ok(names) => Ok(Answer::Names(names)),
-        Err(fault) => Err(fault),
-    }
-}
-
-fn path_text(forest: &Forest, layer: u32, id: Id) -> Result<Answer, Fault> {
-    match forest.path_text(layer, id) {
-        Ok(path) => Ok(Answer::Text(path.text)),
-        Err(fault) => Err(fault),
-    }
+    let (meta, fields) = (meta.share()?, fields.share()?);
+    forest.add(meta, fields, parent, Bits(1)).map(Answer::Span)
 }

@@ -1,13 +1,17 @@
 //! A registry whose outlet keeps the lines, with one worker.
 ghost use Rattle.std.specs.Prelude.{◌≡◌, [], None, vec_len, sum_by, IfOk};
+ghost use Rattle.span_registry.specs.Blanks.{blanks_of};
 
 use crate::named::Named::One;
 use crate::rows::Row;
 use crate::rows::acts::Place::Apart;
-use crate::rows::acts::{Act, Called, Names};
+use crate::rows::acts::Question::{
+    Find, HeldSpans, HoldersOf, OpenSpans, SpanDetails, WorkersInside,
+};
+use crate::rows::acts::{Act, Called, Given};
 use crate::rows::caller::caller_of;
 use crate::rows::ending::{tell_end, whole};
-use crate::rows::on_registry::{OnRegistry, one_worker};
+use crate::rows::on_registry::OnRegistry;
 use crate::stage::Memory::Taken;
 use crate::stage::Stage;
 use crate::stop::Stop;
@@ -27,17 +31,17 @@ static EVERY_CALL: [Planned<'static, Act>; 16] = [
     ("enter 1", Taken, Act::Enter(One)),
     ("record 1", Taken, Act::Record(One)),
     ("event m", Taken, Act::Event),
-    ("find 1", Taken, Act::Find(One)),
-    ("open spans", Taken, Act::OpenSpans),
-    ("held spans", Taken, Act::HeldSpans),
-    ("holders of 1", Taken, Act::HoldersOf(One)),
-    ("workers inside 1", Taken, Act::WorkersInside(One)),
-    ("span details", Taken, Act::SpanDetails),
+    ("find 1", Taken, Act::Ask(Find(One))),
+    ("open spans", Taken, Act::Ask(OpenSpans)),
+    ("held spans", Taken, Act::Ask(HeldSpans)),
+    ("holders of 1", Taken, Act::Ask(HoldersOf(One))),
+    ("workers inside 1", Taken, Act::Ask(WorkersInside(One))),
+    ("span details", Taken, Act::Ask(SpanDetails)),
     ("close 1", Taken, Act::Close(One)),
     ("exit 1", Taken, Act::Exit(One)),
     ("close 1", Taken, Act::Close(One)),
-    ("find 1", Taken, Act::Find(One)),
-    ("holders of 1", Taken, Act::HoldersOf(One)),
+    ("find 1", Taken, Act::Ask(Find(One))),
+    ("holders of 1", Taken, Act::Ask(HoldersOf(One))),
 ];
 
 // A handle that is given up.
@@ -49,11 +53,11 @@ pub(crate) fn run<R: Print + Wait>(
     stage: &Stage<R>,
     alloc: Global,
     row: Row,
-    names: &Names,
+    given: &Given,
     filters: Filters,
     tellers: Tellers,
 ) -> Result<(), Stop> {
-    let plan = if row == Row::GivenUp {
+    let plan = if matches!(row, Row::GivenUp) {
         GIVEN_UP.as_slice()
     } else {
         EVERY_CALL.as_slice()
@@ -62,7 +66,7 @@ pub(crate) fn run<R: Print + Wait>(
         stage,
         alloc,
         plan,
-        names,
+        given,
         filters,
         Kept::new(alloc, tellers),
     )
@@ -73,35 +77,25 @@ fn on_outlet<V: Say, R: Print + Wait>(
     stage: &Stage<R>,
     alloc: Global,
     plan: &[Planned<'_, Act>],
-    names: &Names,
+    given: &Given,
     filters: Filters,
     outlet: Kept<V>,
 ) -> Result<(), Stop>
     requires { outlet.sent ≡ [] }
 {
-    match blanks(stage, alloc) {
-        Ok(blanks) => named::<Brand, Brand, Brand, V, R>(
-            stage, alloc, plan, names, filters, outlet, blanks,
-        ),
-        Err(stop) => Err(stop),
-    }
+    let blanks = blanks(stage, alloc, given)?;
+    named::<Brand, Brand, Brand, V, R>(stage, alloc, plan, given, filters, outlet, blanks)
 }
 
-// The blanks of a registry with one worker.
-fn blanks<R: Print>(stage: &Stage<R>, alloc: Global) -> Result<Blanks, Stop>
+// The blanks of a registry.
+fn blanks<R: Print>(stage: &Stage<R>, alloc: Global, given: &Given) -> Result<Blanks, Stop>
     ensures workers { IfOk result (λ blanks. blanks.limits.workers ≡ 1) }
     ensures parts { IfOk result (λ blanks. (blanks.handle_parts ≡ HANDLE_PARTS) × (blanks.call_parts ≡ 1)) }
 {
-    let Ok(checked) = one_worker(1024) else {
-        return Err(Stop::Memory);
-    };
     stage.begin(Taken);
-    let blanks = Blanks::new(alloc, &checked);
+    let blanks = Blanks::new(alloc, &given.checked);
     stage.over();
-    match blanks {
-        Ok(blanks) => Ok(blanks),
-        Err(_) => Err(Stop::Memory),
-    }
+    Ok(blanks?)
 }
 
 // Generic in the registry's names, which the caller picks.
@@ -109,7 +103,7 @@ fn named<H: Ledger, C: Ledger, S: Setup, V: Say, R: Print + Wait>(
     stage: &Stage<R>,
     alloc: Global,
     plan: &[Planned<'_, Act>],
-    names: &Names,
+    given: &Given,
     filters: Filters,
     outlet: Kept<V>,
     blanks: Blanks,
@@ -118,21 +112,13 @@ fn named<H: Ledger, C: Ledger, S: Setup, V: Say, R: Print + Wait>(
     requires setup { (filters.rules ≡ S.rules) × (outlet.forms ≡ S.forms) × (None ≡ S.ring) }
     requires workers { S.limits.workers ≡ 1 }
     requires parts { (H.parts ≡ HANDLE_PARTS) × (C.parts ≡ 1) }
-    requires blanks { blanks ≡ record {
-      limits = S.limits;
-      handles = H.name;
-      handle_parts = H.parts;
-      calls = C.name;
-      call_parts = C.parts;
-      table = S.table;
-      history = S.history;
-    } }
+    requires blanks { blanks ≡ blanks_of S.limits H.name H.parts C.name C.parts S.table S.history }
 {
     stage.begin(Taken);
     let made = Registry::<H, C, S, Kept<V>>::new(alloc, filters, outlet, blanks);
     stage.over();
     match made {
-        Ok((registry, workers)) => called(stage, alloc, plan, names, registry, workers),
+        Ok((registry, workers)) => called(stage, alloc, plan, given, registry, workers),
         Err(_) => Err(Stop::Memory),
     }
 }
@@ -143,7 +129,7 @@ fn called<H: Ledger, C: Ledger, S: Setup, V: Say, A: Admit, R: Print + Wait>(
     stage: &Stage<R>,
     alloc: Global,
     plan: &[Planned<'_, Act>],
-    names: &Names,
+    given: &Given,
     registry: Registry<H, C, S, Kept<V>, A>,
     workers: Vec<Worker<H, C, S>>,
 ) -> Result<(), Stop>
@@ -154,7 +140,7 @@ fn called<H: Ledger, C: Ledger, S: Setup, V: Say, A: Admit, R: Print + Wait>(
     let mut subject = OnRegistry {
         rt: stage.rt,
         alloc,
-        names,
+        given,
         registry,
         caller: caller_of(workers),
     };

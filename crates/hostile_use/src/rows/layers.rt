@@ -1,13 +1,14 @@
 //! Layers that are added one after another, and the texts that they write.
 
 use crate::answer::Answer;
-use crate::stage::{Memory, Stage, TRIES};
+use crate::stage::Memory::{self, Taken};
+use crate::stage::{Stage, TRIES};
 use crate::stop::Stop;
-use crate::texts::{meta_of, note_of, shown};
-use crate::trial::made;
+use crate::texts::{meta_of, note_of};
+use crate::trial::{Planned, Subject, perform, tell_refused};
 use span_id::{Fault, Level, Meta};
 use span_layers::{Filters, Form, Kind, Layer, Layers, Note, Rule, Style, Tellers, admits, text};
-use std::alloc::Global;
+use std::alloc::{AllocError, Global};
 
 // Of which kinds notes are written, and with which fields.
 static NOTES: [(Kind, &[(&str, &str)]); 4] = [
@@ -17,8 +18,27 @@ static NOTES: [(Kind, &[(&str, &str)]); 4] = [
     (Kind::OnClose, &[("k", "1"), ("k", "2")]),
 ];
 
-// In which forms a note is written.
-static FORMS: [Form; 2] = [Form::Json, Form::Compact];
+/// What writes a note.
+enum Act {
+    /// `text`, in this form.
+    Text(Form),
+    /// What writes the notes of layers, as the note's layer does.
+    Say,
+}
+
+static WAYS: [Planned<'static, Act>; 3] = [
+    ("text", Taken, Act::Text(Form::Json)),
+    ("text", Taken, Act::Text(Form::Compact)),
+    ("say", Taken, Act::Say),
+];
+
+/// A note, and what writes the notes of layers.
+#[derive(Drop)]
+struct OnNote<'a> {
+    alloc: Global,
+    tellers: &'a Tellers,
+    note: &'a Note,
+}
 
 /// Adds a layer, and tells its number where that is asked for. One that was refused memory comes back as it was, and is
 /// added again.
@@ -36,7 +56,9 @@ pub(crate) fn add<R: Print>(
         stage.over();
         match added {
             Ok(number) => {
-                tell_added(stage, is_told, Answer::Number(number as u64));
+                if is_told {
+                    stage.wrote(println!(stage.rt; "add: {number}"));
+                }
                 return Ok(());
             }
             Err((back, fault)) => {
@@ -68,18 +90,14 @@ fn judge<R: Print>(
     if fault == Fault::Memory {
         return None;
     }
-    tell_added(stage, is_told, Answer::Refused(fault));
+    if is_told {
+        tell_refused(stage, "add", fault);
+    }
     Some(Ok(()))
 }
 
-fn tell_added<R: Print>(stage: &Stage<R>, is_told: bool, added: Answer) {
-    if is_told {
-        stage.wrote(println!(stage.rt; "add: {added}"));
-    }
-}
-
 /// Splits the layers, and tells what both parts answer.
-pub(crate) fn tell<R: Print>(stage: &Stage<R>, alloc: Global, layers: Layers) -> Result<(), Stop> {
+pub(crate) fn run<R: Print>(stage: &Stage<R>, alloc: Global, layers: Layers) -> Result<(), Stop> {
     stage.begin(Memory::Untouched);
     let (filters, tellers) = layers.split();
     stage.over();
@@ -96,7 +114,8 @@ fn tell_parts<R: Print>(
     stage.wrote(println!(stage.rt; "tellers: {}", tellers.len()));
     for layer in 0..2 {
         for (kind, fields) in &NOTES {
-            write(stage, alloc, tellers, layer, *kind, fields)?;
+            let note = note_of(alloc, layer, *kind, fields)?;
+            write(stage, alloc, tellers, &note)?;
         }
     }
     Ok(())
@@ -105,13 +124,9 @@ fn tell_parts<R: Print>(
 // Asks the filters, which takes no memory.
 fn ask<R: Print>(stage: &Stage<R>, alloc: Global, filters: &Filters) -> Result<(), Stop> {
     let meta = meta_of(alloc, "a", Level::Info)?;
-    match Rule::everything(alloc) {
-        Ok(rule) => {
-            ask_of(stage, filters, &meta, &rule);
-            Ok(())
-        }
-        Err(_) => Err(Stop::Memory),
-    }
+    let rule = Rule::everything(alloc)?;
+    ask_of(stage, filters, &meta, &rule);
+    Ok(())
 }
 
 fn ask_of<R: Print>(stage: &Stage<R>, filters: &Filters, meta: &Meta, rule: &Rule) {
@@ -129,49 +144,26 @@ fn write<R: Print>(
     stage: &Stage<R>,
     alloc: Global,
     tellers: &Tellers,
-    layer: u32,
-    kind: Kind,
-    fields: &[(&str, &str)],
-) -> Result<(), Stop> {
-    match note_of(alloc, layer, kind, fields) {
-        Ok(note) => write_note(stage, alloc, tellers, &note),
-        Err(_) => Err(Stop::Memory),
-    }
-}
-
-fn write_note<R: Print>(
-    stage: &Stage<R>,
-    alloc: Global,
-    tellers: &Tellers,
     note: &Note,
 ) -> Result<(), Stop> {
-    for form in &FORMS {
-        write_text(stage, alloc, *form, note)?;
-    }
-    tell_text(stage, "say", made(stage, "say", || say(tellers, note)))
+    let mut subject = OnNote {
+        alloc,
+        tellers,
+        note,
+    };
+    perform(stage, alloc, &mut subject, &WAYS)
 }
 
-fn write_text<R: Print>(
-    stage: &Stage<R>,
-    alloc: Global,
-    form: Form,
-    note: &Note,
-) -> Result<(), Stop> {
-    let written = made(stage, "text", || Ok(text(alloc, form, note)?));
-    tell_text(stage, "text", written)
-}
-
-fn tell_text<R: Print>(
-    stage: &Stage<R>,
-    name: &str,
-    text: Result<Vec<u8>, Stop>,
-) -> Result<(), Stop> {
-    match text {
-        Ok(text) => {
-            stage.wrote(println!(stage.rt; "{name}: {}", shown(text.as_slice())));
-            Ok(())
+impl<'a> Subject<Act> for OnNote<'a> {
+    fn call(&mut self, act: &Act) -> Result<Answer, Fault> {
+        match act {
+            Act::Text(form) => Ok(Answer::Bytes(text(self.alloc, *form, self.note)?)),
+            Act::Say => say(self.tellers, self.note).map(Answer::Bytes),
         }
-        Err(stop) => Err(stop),
+    }
+
+    fn look(&mut self, text: &mut String) -> Result<(), AllocError> {
+        write!(text, "{:?} {}", self.note, self.tellers.len())
     }
 }
 

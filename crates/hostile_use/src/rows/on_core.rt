@@ -1,93 +1,93 @@
 //! Spans on a core, which has no lock.
-ghost use Rattle.std.specs.Prelude.{◌≡◌, ◌<◌, [], IfOk};
+ghost use Rattle.std.specs.Prelude.{◌≡◌, ◌<◌, []};
 
-use crate::answer::{Answer, details, done, held, holders, spans, workers, yes_or_no};
+use crate::answer::{Answer, done, held};
 use crate::named::Named::{self, One, OneAnew, Two};
 use crate::rows::acts::Place::{Apart, Inside};
-use crate::rows::acts::{Act, Called, MESSAGE, Names};
+use crate::rows::acts::Question::{
+    self, Find, HeldSpans, HoldersOf, OpenSpans, SpanDetails, WorkersInside,
+};
+use crate::rows::acts::{Act, Called, Given, MESSAGE};
+use crate::rows::on_core::Asked::Call;
+use crate::rows::outlets::{Lines, notes_of};
 use crate::stage::Memory::{Taken, Untouched};
 use crate::stage::Stage;
 use crate::stop::Stop;
 use crate::texts::{add_lines, add_numbers, add_span, add_stack};
 use crate::trial::{Planned, Subject, perform};
 use span_core::Core;
-use span_id::{Checked, Fault, Limits, Meta};
-use span_layers::{Admit, Filters, Say, Tellers};
+use span_id::{Fault, Meta};
+use span_layers::{Admit, Filters, Tellers};
 use span_outlet::{Kept, Outlet, ParentOf};
 use std::alloc::{AllocError, Global};
 
-#[derive(Clone, Copy)]
-enum Ask {
+pub(crate) enum Asked {
     Call(Act),
     Len,
     Total,
     Calls,
     /// The topmost entry of the worker's stack.
     Top,
-    /// How many batches the outlet keeps.
+    /// How many batches were sent.
     Batches,
     /// How many notes were told or missed.
     Notes,
 }
 
 // A span inside another, and one that is entered nine times. The third span gets the slot of the first.
-static PLAN: [Planned<'static, Ask>; 37] = [
-    ("new a", Taken, Ask::Call(Act::New(Called::A, Apart))),
-    ("clone 1", Taken, Ask::Call(Act::Clone(One))),
-    ("enter 1", Taken, Ask::Call(Act::Enter(One))),
-    (
-        "new b inside",
-        Taken,
-        Ask::Call(Act::New(Called::B, Inside)),
-    ),
-    ("record 2", Taken, Ask::Call(Act::Record(Two))),
-    ("event m", Taken, Ask::Call(Act::Event)),
-    ("event in 2", Taken, Ask::Call(Act::EventIn(Two))),
-    ("find 1", Untouched, Ask::Call(Act::Find(One))),
-    ("find 2", Untouched, Ask::Call(Act::Find(Two))),
-    ("open spans", Taken, Ask::Call(Act::OpenSpans)),
-    ("held spans", Taken, Ask::Call(Act::HeldSpans)),
-    ("holders of 1", Taken, Ask::Call(Act::HoldersOf(One))),
+static PLAN: [Planned<'static, Asked>; 37] = [
+    ("new a", Taken, Call(Act::New(Called::A, Apart))),
+    ("clone 1", Taken, Call(Act::Clone(One))),
+    ("enter 1", Taken, Call(Act::Enter(One))),
+    ("new b inside", Taken, Call(Act::New(Called::B, Inside))),
+    ("record 2", Taken, Call(Act::Record(Two))),
+    ("event m", Taken, Call(Act::Event)),
+    ("event in 2", Taken, Call(Act::EventIn(Two))),
+    ("find 1", Untouched, Call(Act::Ask(Find(One)))),
+    ("find 2", Untouched, Call(Act::Ask(Find(Two)))),
+    ("open spans", Taken, Call(Act::Ask(OpenSpans))),
+    ("held spans", Taken, Call(Act::Ask(HeldSpans))),
+    ("holders of 1", Taken, Call(Act::Ask(HoldersOf(One)))),
     (
         "workers inside 1",
         Taken,
-        Ask::Call(Act::WorkersInside(One)),
+        Call(Act::Ask(WorkersInside(One))),
     ),
     (
         "workers inside 2",
         Taken,
-        Ask::Call(Act::WorkersInside(Two)),
+        Call(Act::Ask(WorkersInside(Two))),
     ),
-    ("span details", Taken, Ask::Call(Act::SpanDetails)),
-    ("close 1", Taken, Ask::Call(Act::Close(One))),
-    ("close 1", Taken, Ask::Call(Act::Close(One))),
-    ("top", Untouched, Ask::Top),
-    ("total", Untouched, Ask::Total),
-    ("exit 1", Taken, Ask::Call(Act::Exit(One))),
-    ("len", Untouched, Ask::Len),
-    ("close 2", Taken, Ask::Call(Act::Close(Two))),
-    ("len", Untouched, Ask::Len),
-    ("event in 2", Taken, Ask::Call(Act::EventIn(Two))),
-    ("new a", Taken, Ask::Call(Act::New(Called::A, Apart))),
-    ("enter it", Taken, Ask::Call(Act::Enter(OneAnew))),
-    ("enter it, 2", Taken, Ask::Call(Act::Enter(OneAnew))),
-    ("enter it, 3", Taken, Ask::Call(Act::Enter(OneAnew))),
-    ("enter it, 4", Taken, Ask::Call(Act::Enter(OneAnew))),
-    ("enter it, 5", Taken, Ask::Call(Act::Enter(OneAnew))),
-    ("enter it, 6", Taken, Ask::Call(Act::Enter(OneAnew))),
-    ("enter it, 7", Taken, Ask::Call(Act::Enter(OneAnew))),
-    ("enter it, 8", Taken, Ask::Call(Act::Enter(OneAnew))),
-    ("enter it, 9", Taken, Ask::Call(Act::Enter(OneAnew))),
-    ("calls", Untouched, Ask::Calls),
-    ("batches", Untouched, Ask::Batches),
-    ("notes", Untouched, Ask::Notes),
+    ("span details", Taken, Call(Act::Ask(SpanDetails))),
+    ("close 1", Taken, Call(Act::Close(One))),
+    ("close 1", Taken, Call(Act::Close(One))),
+    ("top", Untouched, Asked::Top),
+    ("total", Untouched, Asked::Total),
+    ("exit 1", Taken, Call(Act::Exit(One))),
+    ("len", Untouched, Asked::Len),
+    ("close 2", Taken, Call(Act::Close(Two))),
+    ("len", Untouched, Asked::Len),
+    ("event in 2", Taken, Call(Act::EventIn(Two))),
+    ("new a", Taken, Call(Act::New(Called::A, Apart))),
+    ("enter it", Taken, Call(Act::Enter(OneAnew))),
+    ("enter it, 2", Taken, Call(Act::Enter(OneAnew))),
+    ("enter it, 3", Taken, Call(Act::Enter(OneAnew))),
+    ("enter it, 4", Taken, Call(Act::Enter(OneAnew))),
+    ("enter it, 5", Taken, Call(Act::Enter(OneAnew))),
+    ("enter it, 6", Taken, Call(Act::Enter(OneAnew))),
+    ("enter it, 7", Taken, Call(Act::Enter(OneAnew))),
+    ("enter it, 8", Taken, Call(Act::Enter(OneAnew))),
+    ("enter it, 9", Taken, Call(Act::Enter(OneAnew))),
+    ("calls", Untouched, Asked::Calls),
+    ("batches", Untouched, Asked::Batches),
+    ("notes", Untouched, Asked::Notes),
 ];
 
 /// A core on which the worker 0 calls.
 #[derive(Drop)]
-struct OnCore<'n, V: Say> {
-    names: &'n Names,
-    core: Core<Kept<V>>,
+pub(crate) struct OnCore<'n, O: Outlet + Lines + Drop, A: Admit> {
+    pub(crate) given: &'n Given,
+    pub(crate) core: Core<O, A>,
     ghost has_worker: { 0 < core.limits.workers },
 }
 
@@ -95,100 +95,58 @@ struct OnCore<'n, V: Say> {
 pub(crate) fn run<R: Print>(
     stage: &Stage<R>,
     alloc: Global,
-    names: &Names,
+    given: &Given,
     filters: Filters,
     tellers: Tellers,
 ) -> Result<(), Stop> {
-    on_outlet(stage, alloc, names, filters, Kept::new(alloc, tellers))
+    on_outlet(stage, alloc, given, filters, Kept::new(alloc, tellers))
 }
 
-fn on_outlet<V: Say, R: Print>(
+fn on_outlet<O: Outlet + Lines + Drop, R: Print>(
     stage: &Stage<R>,
     alloc: Global,
-    names: &Names,
+    given: &Given,
     filters: Filters,
-    outlet: Kept<V>,
+    outlet: O,
 ) -> Result<(), Stop>
-    requires { outlet.sent ≡ [] }
+    requires { O.sent outlet ≡ [] }
 {
-    let Ok(checked) = limits() else {
-        return Err(Stop::Memory);
-    };
     stage.begin(Taken);
-    let made = Core::new(alloc, &checked, filters, outlet);
+    let made = Core::new(alloc, &given.checked, filters, outlet);
     stage.over();
     match made {
-        Ok(core) => on_core(stage, alloc, OnCore { names, core }),
+        Ok(core) => perform(stage, alloc, &mut OnCore { given, core }, &PLAN),
         Err(_) => Err(Stop::Memory),
     }
 }
 
-/// The limits of a core that has a worker.
-pub(crate) fn limits() -> Result<Checked, Fault>
-    ensures { IfOk result (λ checked. 0 < checked.workers) }
-{
-    Limits::default().check()
-}
-
-// Generic in what makes the texts.
-fn on_core<V: Say, R: Print>(
-    stage: &Stage<R>,
-    alloc: Global,
-    subject: OnCore<'_, V>,
-) -> Result<(), Stop> {
-    let mut subject = subject;
-    perform(stage, alloc, &mut subject, &PLAN)
-}
-
-impl<'n, V: Say> Subject<Ask> for OnCore<'n, V> {
-    fn call(&mut self, ask: &Ask) -> Result<Answer, Fault> {
+impl<'n, O: Outlet + Lines + Drop, A: Admit> Subject<Asked> for OnCore<'n, O, A> {
+    fn call(&mut self, asked: &Asked) -> Result<Answer, Fault> {
         let core = &self.core;
-        Ok(match ask {
-            Ask::Call(act) => return make(&mut self.core, self.names, *act),
-            Ask::Len => Answer::Number(u64::from(core.len())),
-            Ask::Total => Answer::Number(core.total()),
-            Ask::Calls => Answer::Number(core.calls()),
-            Ask::Top => Answer::from(core.stack(0).top()),
-            Ask::Batches => Answer::Number(core.outlet().batches().len() as u64),
-            Ask::Notes => {
-                let told = core.outlet().all().len() as u64;
-                Answer::Number(told.saturating_add(core.outlet().refused()))
-            }
+        Ok(match asked {
+            Call(act) => return make(&mut self.core, self.given, act),
+            Asked::Len => Answer::Number(u64::from(core.len())),
+            Asked::Total => Answer::Number(core.total()),
+            Asked::Calls => Answer::Number(core.calls()),
+            Asked::Top => Answer::from(core.stack(0).top()),
+            Asked::Batches => Answer::Number(core.outlet().counted().0),
+            Asked::Notes => Answer::Number(notes_of(core.outlet())),
         })
     }
 
     fn look(&mut self, text: &mut String) -> Result<(), AllocError> {
         let core = &self.core;
-        add_counts(text, core)?;
-        add_lines(text, core.outlet().all())?;
+        let (batches, missed) = core.outlet().counted();
+        add_numbers(text, &[u64::from(core.len()), core.total(), core.calls()])?;
+        add_numbers(text, &[core.made(), core.closed(), batches, missed])?;
+        add_lines(text, core.outlet().told())?;
         add_stack(text, core.stack(0))?;
         add_spans(text, core)
     }
 }
 
-fn add_counts<V: Say>(text: &mut String, core: &Core<Kept<V>>) -> Result<(), AllocError> {
-    let outlet = core.outlet();
-    let (len, batches) = (u64::from(core.len()), outlet.batches().len() as u64);
-    let (made, closed) = (core.made(), core.closed());
-    add_numbers(
-        text,
-        &[
-            len,
-            core.total(),
-            core.calls(),
-            made,
-            closed,
-            batches,
-            outlet.refused(),
-        ],
-    )
-}
-
-/// Adds the spans that rows name and that are open to a text.
-pub(crate) fn add_spans<O: Outlet, A: Admit>(
-    text: &mut String,
-    core: &Core<O, A>,
-) -> Result<(), AllocError> {
+// Adds the spans that rows name and that are open to a text.
+fn add_spans<O: Outlet, A: Admit>(text: &mut String, core: &Core<O, A>) -> Result<(), AllocError> {
     for named in Named::ALL {
         if let Some(span) = core.find(named.id()) {
             add_span(text, span)?;
@@ -197,33 +155,30 @@ pub(crate) fn add_spans<O: Outlet, A: Admit>(
     Ok(())
 }
 
-/// A call that may change the core, or a look at a span.
-pub(crate) fn make<O: Outlet, A: Admit>(
+// A call that may change the core, or a question.
+fn make<O: Outlet, A: Admit>(
     core: &mut Core<O, A>,
-    names: &Names,
-    act: Act,
+    given: &Given,
+    act: &Act,
 ) -> Result<Answer, Fault>
     requires { 0 < core.old.limits.workers }
     ensures { core.new.limits ≡ core.old.limits }
 {
     match act {
-        Act::New(called, place) => new_span(core, names.meta(called), place.parent()),
+        Act::New(called, place) => new_span(core, given.meta(called), place.parent()),
         Act::Clone(named) => done(core.clone_span(0, named.id())),
-        Act::Enter(named) => yes_or_no(core.enter(0, named.id())),
-        Act::Exit(named) => yes_or_no(core.exit(0, named.id())),
-        Act::Close(named) => yes_or_no(core.try_close(0, named.id())),
-        Act::Record(named) => done(core.record(0, named.id(), names.fields.as_slice())),
-        Act::Event => done(core.event(0, &names.event, MESSAGE, &[])),
+        Act::Enter(named) => core.enter(0, named.id()).map(Answer::Yes),
+        Act::Exit(named) => core.exit(0, named.id()).map(Answer::Yes),
+        Act::Close(named) => core.try_close(0, named.id()).map(Answer::Yes),
+        Act::Record(named) => done(core.record(0, named.id(), given.fields.as_slice())),
+        Act::Event | Act::EventWithFields => {
+            done(core.event(0, &given.event, MESSAGE, given.fields_of(act)))
+        }
         Act::EventIn(named) => {
             let parent = ParentOf::Of(named.id());
-            done(core.event_in(0, &names.event, MESSAGE, &[], parent))
+            done(core.event_in(0, &given.event, MESSAGE, &[], parent))
         }
-        Act::Find(named) => Ok(held(core.find(named.id()))),
-        Act::OpenSpans => spans(core.open_spans()),
-        Act::HeldSpans => holders(core.held_spans()),
-        Act::HoldersOf(named) => holders(core.holders_of(named.id())),
-        Act::WorkersInside(named) => workers(core.workers_inside(named.id())),
-        Act::SpanDetails => details(core.span_details()),
+        Act::Ask(question) => ask(core, question),
     }
 }
 
@@ -235,8 +190,16 @@ fn new_span<O: Outlet, A: Admit>(
     requires { 0 < core.old.limits.workers }
     ensures { core.new.limits ≡ core.old.limits }
 {
-    match core.new_span(0, meta, &[], parent) {
-        Ok(id) => Ok(Answer::from(id)),
-        Err(fault) => Err(fault),
+    core.new_span(0, meta, &[], parent).map(Answer::from)
+}
+
+fn ask<O: Outlet, A: Admit>(core: &Core<O, A>, question: &Question) -> Result<Answer, Fault> {
+    match question {
+        Find(named) => Ok(held(core.find(named.id()))),
+        OpenSpans => core.open_spans().map(Answer::Spans),
+        HeldSpans => core.held_spans().map(Answer::Holders),
+        HoldersOf(named) => core.holders_of(named.id()).map(Answer::Holders),
+        WorkersInside(named) => core.workers_inside(named.id()).map(Answer::Workers),
+        SpanDetails => core.span_details().map(Answer::Details),
     }
 }

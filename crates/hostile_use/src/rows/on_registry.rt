@@ -1,13 +1,13 @@
 //! A registry as what calls are made on.
-ghost use Rattle.std.specs.Prelude.{◌≡◌, IfOk};
+ghost use Rattle.std.specs.Prelude.{◌≡◌};
 
 use crate::answer::Answer;
 use crate::named::Named;
-use crate::rows::acts::{Act, Names};
+use crate::rows::acts::{Act, Given};
 use crate::rows::caller::Caller;
 use crate::texts::add_numbers;
 use crate::trial::Subject;
-use span_id::{Checked, Fault, Id, Limits};
+use span_id::{Fault, Id};
 use span_layers::Admit;
 use span_outlet::Outlet;
 use span_registry::{Registry, Setup, Worker};
@@ -15,24 +15,12 @@ use std::alloc::{AllocError, Global};
 use std::sync::Wait;
 use std::sync::ledger::Ledger;
 
-/// The limits of a registry with one worker, whose ring has so many places.
-pub(crate) fn one_worker(ring: u32) -> Result<Checked, Fault>
-    ensures { IfOk result (λ checked. checked.workers ≡ 1) }
-{
-    let limits = Limits {
-        workers: 1,
-        ring,
-        ..Limits::default()
-    };
-    limits.check()
-}
-
 /// A registry and who calls on it.
 #[derive(Drop)]
 pub(crate) struct OnRegistry<'r, 'n, H: Ledger, C: Ledger, S: Setup, O: Outlet, A: Admit, R: Wait> {
     pub(crate) rt: &'r R,
     pub(crate) alloc: Global,
-    pub(crate) names: &'n Names,
+    pub(crate) given: &'n Given,
     pub(crate) registry: Registry<H, C, S, O, A>,
     pub(crate) caller: Caller<H, C, S>,
 }
@@ -41,7 +29,7 @@ impl<'r, 'n, H: Ledger, C: Ledger, S: Setup, O: Outlet, A: Admit, R: Wait> Subje
     for OnRegistry<'r, 'n, H, C, S, O, A, R> {
     fn call(&mut self, act: &Act) -> Result<Answer, Fault> {
         self.caller
-            .call(self.rt, self.alloc, &self.registry, self.names, *act)
+            .call(self.rt, self.alloc, &self.registry, self.given, act)
     }
 
     fn look(&mut self, text: &mut String) -> Result<(), AllocError> {

@@ -7,24 +7,44 @@ use crate::stop::Stop;
 use crate::texts::{meta_of, note_of, plain_tellers};
 use span_id::{Id, Level, Limits};
 use span_layers::{Kind, Note, Say, Tellers};
-use span_outlet::{Batch, Call, Kept, KnownEvent, Latest, Outlet, ParentOf, Reply, Ring};
-use std::alloc::{AllocError, Global};
+use span_outlet::{Batch, Call, Kept, KnownEvent, Latest, Line, Outlet, ParentOf, Reply, Ring};
+use std::alloc::Global;
 
-/// How many batches were sent to a `Latest`, and how many notes were missed.
-#[derive(Clone, Copy)]
-pub(crate) struct Sent {
-    batches: u64,
-    missed: u64,
+/// An outlet that makes the lines itself.
+pub(crate) trait Lines {
+    /// How many batches were sent to it, and how many notes were missed.
+    fn counted(&self) -> (u64, u64);
+
+    /// The lines that it has.
+    fn told(&self) -> &[Line];
 }
 
-impl Sent {
-    /// To this one so far.
-    pub(crate) fn to<V>(latest: &Latest<V>) -> Sent {
-        Sent {
-            batches: latest.sent(),
-            missed: latest.refused(),
-        }
+impl<V> Lines for Kept<V> {
+    fn counted(&self) -> (u64, u64) {
+        (self.batches().len() as u64, self.refused())
     }
+
+    fn told(&self) -> &[Line] {
+        self.all()
+    }
+}
+
+impl<V> Lines for Latest<V> {
+    fn counted(&self) -> (u64, u64) {
+        (self.sent(), self.refused())
+    }
+
+    fn told(&self) -> &[Line] {
+        self.lines()
+    }
+}
+
+/// How many notes were told or missed.
+pub(crate) fn notes_of<O: Lines>(outlet: &O) -> u64 {
+    outlet
+        .counted()
+        .1
+        .saturating_add(outlet.told().len() as u64)
 }
 
 /// Puts a batch with one note into each of two outlets, and tells what they show.
@@ -37,9 +57,7 @@ pub(crate) fn run<R: Print>(stage: &Stage<R>, alloc: Global, tellers: Tellers) -
 }
 
 fn put_in_ring<R: Print>(stage: &Stage<R>, alloc: Global) -> Result<(), Stop> {
-    let Ok(checked) = Limits::default().check() else {
-        return Err(Stop::Memory);
-    };
+    let checked = Limits::default().check()?;
     stage.begin(Memory::Taken);
     let ends = Ring::pair(alloc, &checked);
     stage.over();
@@ -66,8 +84,7 @@ fn put_in_kept<V: Say, R: Print>(
 {
     put(stage, alloc, Memory::Taken, kept)?;
     stage.begin(Memory::Untouched);
-    let (batches, told) = (kept.batches().len(), kept.all().len() as u64);
-    let notes = kept.refused().saturating_add(told);
+    let (batches, notes) = (kept.counted().0, notes_of(kept));
     stage.over();
     stage.wrote(println!(stage.rt; "kept: batches {batches} lines and missed {notes}"));
     Ok(())
@@ -89,7 +106,7 @@ fn put_in_latest<V: Say, R: Print>(
 ) -> Result<(), Stop>
     requires { latest.old.sent ≡ [] }
 {
-    let before = Sent::to(latest);
+    let before = latest.counted();
     put(stage, alloc, Memory::Untouched, latest)?;
     tell_last(stage, latest, before);
     tell_event(stage, alloc, latest)?;
@@ -107,7 +124,7 @@ fn tell_event<V: Say, R: Print>(
     requires { length latest.old.sent ≤ 2 }
     ensures { length latest.new.sent ≤ length latest.old.sent + 1 }
 {
-    let before = Sent::to(latest);
+    let before = latest.counted();
     room(stage, Memory::Untouched, latest)?;
     put_event(stage, alloc, latest)?;
     tell_last(stage, latest, before);
@@ -145,27 +162,29 @@ fn tell_spare<V: Say, R: Print>(stage: &Stage<R>, latest: &mut Latest<V>) {
     stage.wrote(println!(stage.rt; "spare notes: {first}, {second}"));
 }
 
-/// Tells the batch that was sent since, if there was one: how many notes it has, and the lines of those that were not
-/// missed.
-pub(crate) fn tell_last<V, R: Print>(stage: &Stage<R>, latest: &Latest<V>, before: Sent) {
-    if latest.sent() == before.batches {
-        return;
+/// Tells the batch that was sent since so many batches were and so many notes were missed, if there was one: how many
+/// notes it has, and the lines of those that were not missed.
+pub(crate) fn tell_last<V, R: Print>(
+    stage: &Stage<R>,
+    latest: &Latest<V>,
+    (batches, missed): (u64, u64),
+) {
+    if latest.sent() != batches {
+        let notes = notes_of(latest).saturating_sub(missed);
+        stage.wrote(println!(stage.rt; "lines and missed: {notes}"));
+        tell_lines(stage, latest.lines());
     }
-    let missed = latest.refused().saturating_sub(before.missed);
-    let told = latest.lines().len() as u64;
-    stage.wrote(println!(stage.rt; "lines and missed: {}", missed.saturating_add(told)));
-    tell_lines(stage, latest.lines());
 }
 
 // One note.
-fn notes(alloc: Global, kind: Kind) -> Result<Vec<Note>, AllocError> {
+fn notes(alloc: Global, kind: Kind) -> Result<Vec<Note>, Stop> {
     let mut notes = Vec::new(alloc);
     notes.push(note_of(alloc, 0, kind, &[("k", "1")])?)?;
     Ok(notes)
 }
 
 // A batch with one note.
-fn batch(alloc: Global) -> Result<Batch, AllocError> {
+fn batch(alloc: Global) -> Result<Batch, Stop> {
     Ok(Batch {
         call: Call::CloneSpan {
             worker: 0,
@@ -187,15 +206,11 @@ fn put<O: Outlet, R: Print>(
     ensures { length (O.sent outlet.new) ≤ length (O.sent outlet.old) + 1 }
 {
     room(stage, memory, outlet)?;
-    match batch(alloc) {
-        Ok(batch) => {
-            stage.begin(Memory::Untouched);
-            outlet.put(batch);
-            stage.over();
-            Ok(())
-        }
-        Err(_) => Err(Stop::Memory),
-    }
+    let batch = batch(alloc)?;
+    stage.begin(Memory::Untouched);
+    outlet.put(batch);
+    stage.over();
+    Ok(())
 }
 
 // Asks for room until there is some.

@@ -1,14 +1,16 @@
 //! A registry over a ring, with one worker, and the drain of the ring.
 ghost use Rattle.std.specs.Prelude.{◌≡◌, [], Some, vec_len, sum_by, IfOk};
+ghost use Rattle.span_registry.specs.Blanks.{blanks_of};
 
 use crate::answer::Answer;
 use crate::named::Named::{One, Two};
 use crate::rows::Row;
 use crate::rows::acts::Place::{Apart, Inside};
-use crate::rows::acts::{Act, Called, Names};
+use crate::rows::acts::Question::Find;
+use crate::rows::acts::{Act, Called, Given};
 use crate::rows::caller::caller_of;
 use crate::rows::ending::{tell_end, whole};
-use crate::rows::on_registry::{OnRegistry, one_worker};
+use crate::rows::on_registry::OnRegistry;
 use crate::stage::Memory::{Taken, Untouched};
 use crate::stage::Stage;
 use crate::stop::Stop;
@@ -23,14 +25,12 @@ use std::marker::Brand;
 use std::sync::Wait;
 use std::sync::ledger::Ledger;
 
-#[derive(Clone, Copy)]
 enum Ask {
     Call(Act),
     Drain(Asked),
 }
 
 /// What the drain is asked.
-#[derive(Clone, Copy)]
 enum Asked {
     /// A step: how many notes the batch had.
     Step,
@@ -53,19 +53,23 @@ impl<'r, 'n, H: Ledger, C: Ledger, S: Setup, V: Say, A: Admit, R: Wait> Subject<
     fn call(&mut self, ask: &Ask) -> Result<Answer, Fault> {
         match ask {
             Ask::Call(act) => self.registry.call(act),
-            Ask::Drain(asked) => Ok(drained(&mut self.drain, *asked)),
+            Ask::Drain(asked) => Ok(drained(&mut self.drain, asked)),
         }
     }
 
     fn look(&mut self, text: &mut String) -> Result<(), AllocError> {
         self.registry.look(text)?;
-        add_numbers(text, &[self.drain.taken(), self.drain.refused()])?;
-        add_lines(text, self.drain.all())
+        add_drain(text, &self.drain)
     }
 }
 
+fn add_drain<V>(text: &mut String, drain: &Drain<V>) -> Result<(), AllocError> {
+    add_numbers(text, &[drain.taken(), drain.refused()])?;
+    add_lines(text, drain.all())
+}
+
 // What the drain answers.
-fn drained<V: Say>(drain: &mut Drain<V>, asked: Asked) -> Answer
+fn drained<V: Say>(drain: &mut Drain<V>, asked: &Asked) -> Answer
     ensures { drain.new.name ≡ drain.old.name }
 {
     match asked {
@@ -115,7 +119,7 @@ static EVERY_CALL: [Planned<'static, Ask>; 17] = [
     ("clone 2", Taken, Ask::Call(Act::Clone(Two))),
     ("close 2", Taken, Ask::Call(Act::Close(Two))),
     ("exit 1", Taken, Ask::Call(Act::Exit(One))),
-    ("find 2", Taken, Ask::Call(Act::Find(Two))),
+    ("find 2", Taken, Ask::Call(Act::Ask(Find(Two)))),
     ("close 2", Taken, Ask::Call(Act::Close(Two))),
     ("step", Taken, Ask::Drain(Asked::Step)),
     ("taken", Untouched, Ask::Drain(Asked::Taken)),
@@ -128,51 +132,48 @@ pub(crate) fn run<R: Print + Wait>(
     stage: &Stage<R>,
     alloc: Global,
     row: Row,
-    names: &Names,
+    given: &Given,
     filters: Filters,
     tellers: Tellers,
 ) -> Result<(), Stop> {
-    match parts(stage, alloc, row) {
-        Ok((ring, tap, blanks)) => {
-            stage.begin(Untouched);
-            let drain = Drain::new(alloc, tap, tellers);
-            stage.over();
-            named::<Brand, Brand, Brand, _, R>(
-                stage,
-                alloc,
-                plan_of(row),
-                names,
-                filters,
-                ring,
-                drain,
-                blanks,
-            )
-        }
-        Err(stop) => Err(stop),
-    }
+    let (ring, tap, blanks) = parts(stage, alloc, given)?;
+    stage.begin(Untouched);
+    let drain = Drain::new(alloc, tap, tellers);
+    stage.over();
+    named::<Brand, Brand, Brand, _, R>(
+        stage,
+        alloc,
+        plan_of(row),
+        given,
+        filters,
+        ring,
+        drain,
+        blanks,
+    )
 }
 
 // The row's calls.
 fn plan_of(row: Row) -> &'static [Planned<'static, Ask>] {
-    if row == Row::FullRing {
+    if matches!(row, Row::FullRing) {
         FULL_RING.as_slice()
     } else {
         EVERY_CALL.as_slice()
     }
 }
 
-// Both ends of the ring of a registry with one worker, and its blanks.
-fn parts<R: Print>(stage: &Stage<R>, alloc: Global, row: Row) -> Result<(Ring, Tap, Blanks), Stop>
+// Both ends of the ring of a registry, and its blanks.
+fn parts<R: Print>(
+    stage: &Stage<R>,
+    alloc: Global,
+    given: &Given,
+) -> Result<(Ring, Tap, Blanks), Stop>
     ensures pair { IfOk result (λ parts. (parts.0.name ≡ parts.1) × (parts.0.sent ≡ [])) }
     ensures workers { IfOk result (λ parts. parts.2.limits.workers ≡ 1) }
     ensures parts { IfOk result (λ parts. (parts.2.handle_parts ≡ HANDLE_PARTS) × (parts.2.call_parts ≡ 1)) }
 {
-    let Ok(checked) = one_worker(if row == Row::FullRing { 1 } else { 1024 }) else {
-        return Err(Stop::Memory);
-    };
     stage.begin(Taken);
-    let ends = Ring::pair(alloc, &checked);
-    let blanks = Blanks::new(alloc, &checked);
+    let ends = Ring::pair(alloc, &given.checked);
+    let blanks = Blanks::new(alloc, &given.checked);
     stage.over();
     match (ends, blanks) {
         (Ok((ring, tap)), Ok(blanks)) => Ok((ring, tap, blanks)),
@@ -185,7 +186,7 @@ fn named<H: Ledger, C: Ledger, S: Setup, V: Say, R: Print + Wait>(
     stage: &Stage<R>,
     alloc: Global,
     plan: &[Planned<'_, Ask>],
-    names: &Names,
+    given: &Given,
     filters: Filters,
     ring: Ring,
     drain: Drain<V>,
@@ -196,21 +197,13 @@ fn named<H: Ledger, C: Ledger, S: Setup, V: Say, R: Print + Wait>(
     requires pair { (Some ring.name ≡ S.ring) × (Some drain.name ≡ S.ring) }
     requires workers { S.limits.workers ≡ 1 }
     requires parts { (H.parts ≡ HANDLE_PARTS) × (C.parts ≡ 1) }
-    requires blanks { blanks ≡ record {
-      limits = S.limits;
-      handles = H.name;
-      handle_parts = H.parts;
-      calls = C.name;
-      call_parts = C.parts;
-      table = S.table;
-      history = S.history;
-    } }
+    requires blanks { blanks ≡ blanks_of S.limits H.name H.parts C.name C.parts S.table S.history }
 {
     stage.begin(Taken);
     let made = Registry::<H, C, S, Ring>::new(alloc, filters, ring, blanks);
     stage.over();
     match made {
-        Ok((registry, workers)) => called(stage, alloc, plan, names, registry, workers, drain),
+        Ok((registry, workers)) => called(stage, alloc, plan, given, registry, workers, drain),
         Err(_) => Err(Stop::Memory),
     }
 }
@@ -221,7 +214,7 @@ fn called<H: Ledger, C: Ledger, S: Setup, V: Say, A: Admit, R: Print + Wait>(
     stage: &Stage<R>,
     alloc: Global,
     plan: &[Planned<'_, Ask>],
-    names: &Names,
+    given: &Given,
     registry: Registry<H, C, S, Ring, A>,
     workers: Vec<Worker<H, C, S>>,
     drain: Drain<V>,
@@ -235,7 +228,7 @@ fn called<H: Ledger, C: Ledger, S: Setup, V: Say, A: Admit, R: Print + Wait>(
         registry: OnRegistry {
             rt: stage.rt,
             alloc,
-            names,
+            given,
             registry,
             caller: caller_of(workers),
         },

@@ -6,12 +6,11 @@ use crate::stage::Memory::{Taken, Untouched};
 use crate::stage::Stage;
 use crate::stop::Stop;
 use crate::texts::{add_id, add_numbers};
-use crate::trial::{Planned, Subject, made, perform};
+use crate::trial::{Planned, Subject, perform};
 use span_id::{Fault, Id, Limits};
 use span_slots::Slots;
 use std::alloc::{AllocError, Global};
 
-#[derive(Clone, Copy)]
 enum Act {
     Insert(u32),
     Ids,
@@ -51,12 +50,13 @@ pub(crate) fn run<R: Print>(stage: &Stage<R>, alloc: Global) -> Result<(), Stop>
         last_generation: 0,
         ..Limits::default()
     };
-    let Ok(checked) = limits.check() else {
-        return Err(Stop::Memory);
-    };
-    match made(stage, "new", || Slots::<u32>::new(alloc, &checked)) {
+    let checked = limits.check()?;
+    stage.begin(Taken);
+    let made = Slots::<u32>::new(alloc, &checked);
+    stage.over();
+    match made {
         Ok(mut slots) => perform(stage, alloc, &mut slots, &PLAN),
-        Err(stop) => Err(stop),
+        Err(_) => Err(Stop::Memory),
     }
 }
 

@@ -12,7 +12,6 @@ use span_id::{Fault, Id};
 use span_stack::SpanStack;
 use std::alloc::{AllocError, Global};
 
-#[derive(Clone, Copy)]
 enum Act {
     Reserve(usize),
     Push(Named),

@@ -5,7 +5,7 @@ ghost use Rattle.span_layers.specs.Note.{plain_note};
 ghost use Rattle.span_layers.specs.Rule.{pairs_of, is_admitted};
 ghost use Rattle.span_layers.specs.Text.{text_of};
 
-use crate::rows::acts::Names;
+use crate::rows::acts::Given;
 use crate::rows::{Row, appended, kept, layers, on_core, on_latest, outlets, ring};
 use crate::stage::Stage;
 use crate::stop::Stop;
@@ -22,33 +22,33 @@ pub(crate) fn run<R: Print + Wait>(
     alloc: Global,
     row: Row,
     count: usize,
-    names: &Names,
+    given: &Given,
 ) -> Result<(), Stop> {
     let mut layers = Layers::new(alloc);
     for number in 0..count {
-        let Ok(admit) = Box::new(
+        let admit = Box::new(
             alloc,
             |rule: &Rule, meta: &Meta| -> bool
                 ensures { result
                     ≡ is_admitted (pairs_of rule.now) (string_bytes meta.now.target) meta.now.level }
             { admits(rule, meta) },
-        ) else {
-            return Err(Stop::Memory);
-        };
-        let Ok(say) = Box::new(
+        )?;
+        let say = Box::new(
             alloc,
             |alloc: Global, form: Form, note: &Note| -> Result<Vec<u8>, AllocError>
                 ensures { ForOk result (λ text. text.items ≡ text_of form (plain_note note.now)) }
             { text(alloc, form, note) },
-        ) else {
-            return Err(Stop::Memory);
-        };
-        let hooks = Hooks::new(admit, say);
-        if let Err(stop) = add(stage, alloc, row, number, &mut layers, hooks) {
-            return Err(stop);
-        }
+        )?;
+        add(
+            stage,
+            alloc,
+            row,
+            number,
+            &mut layers,
+            Hooks::new(admit, say),
+        )?;
     }
-    go_on(stage, alloc, row, names, layers)
+    go_on(stage, alloc, row, given, layers)
 }
 
 // Adds the layer of this number, and tells what is answered where layers are what the row is about.
@@ -60,22 +60,17 @@ fn add<R: Print>(
     layers: &mut Layers,
     hooks: Hooks,
 ) -> Result<(), Stop> {
-    match Rule::everything(alloc) {
-        Ok(rule) => {
-            let layer = Layer {
-                style: style(row, number),
-                rule,
-                hooks,
-            };
-            layers::add(stage, layers, layer, row == Row::Layers)
-        }
-        Err(_) => Err(Stop::Memory),
-    }
+    let layer = Layer {
+        style: style(row, number),
+        rule: Rule::everything(alloc)?,
+        hooks,
+    };
+    layers::add(stage, layers, layer, matches!(row, Row::Layers))
 }
 
 // A layer wants everything and writes plain text; of many layers every second writes JSON, from the first on.
 fn style(row: Row, number: usize) -> Style {
-    let form = if row == Row::Layers && number % 2 == 0 {
+    let form = if matches!(row, Row::Layers) && number % 2 == 0 {
         Form::Json
     } else {
         Form::Compact
@@ -91,19 +86,19 @@ fn go_on<R: Print + Wait>(
     stage: &Stage<R>,
     alloc: Global,
     row: Row,
-    names: &Names,
+    given: &Given,
     layers: Layers,
 ) -> Result<(), Stop> {
-    if row == Row::Layers {
-        return layers::tell(stage, alloc, layers);
+    if matches!(row, Row::Layers) {
+        return layers::run(stage, alloc, layers);
     }
     let (filters, tellers) = layers.split();
     match row {
         Row::Outlets => outlets::run(stage, alloc, tellers),
-        Row::Core => on_core::run(stage, alloc, names, filters, tellers),
+        Row::Core => on_core::run(stage, alloc, given, filters, tellers),
         Row::Texts => appended::run(stage, alloc, &tellers.formatters),
-        Row::Latest => on_latest::run(stage, alloc, names, filters, tellers),
-        Row::FullRing | Row::Ring => ring::run(stage, alloc, row, names, filters, tellers),
-        _ => kept::run(stage, alloc, row, names, filters, tellers),
+        Row::Latest => on_latest::run(stage, alloc, given, filters, tellers),
+        Row::FullRing | Row::Ring => ring::run(stage, alloc, row, given, filters, tellers),
+        _ => kept::run(stage, alloc, row, given, filters, tellers),
     }
 }

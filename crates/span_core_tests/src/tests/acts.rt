@@ -5,7 +5,7 @@ ghost use Rattle.std.specs.Prelude.{◌<◌};
 use crate::tests::answers::{Answer, accepted, closed, entered, found, made};
 use crate::tests::compare::id;
 use span_core::Core;
-use span_id::{Fault, Field, Id, Level, Meta};
+use span_id::{Field, Id, Level, Meta};
 use span_outlet::{Outlet, ParentOf};
 use span_parts_tests::values::{list, meta};
 use std::alloc::Global;
@@ -13,6 +13,97 @@ use std::process::Abort;
 
 /// Keys and values.
 pub(crate) type Fields<'a> = &'a [(&'a str, &'a str)];
+
+/// Ids by their numbers.
+#[derive(Clone, Copy)]
+pub(crate) enum Ids<'a> {
+    /// From one up to another.
+    Up(u64, u64),
+    /// From one down to another.
+    Down(u64, u64),
+    These(&'a [u64]),
+}
+
+/// Calls that are made with many ids.
+#[derive(Clone, Copy)]
+pub(crate) enum Calls {
+    /// A span under the current one, which is entered.
+    GoDown,
+    Enter,
+    Exit,
+    /// A span under this one, whose handle is given back.
+    Grow,
+    /// Events with none to three fields.
+    Events,
+    /// A span with a long name under the current one, which is entered, and two events in it.
+    Look,
+    /// Each call that takes an id.
+    OfIds,
+}
+
+// 64 bytes, so the path of 63 such spans has 4,094.
+const LONG: &str = "nnnnnnnnnnnnnnnnnnnnnnnnnnnnnnnnnnnnnnnnnnnnnnnnnnnnnnnnnnnnnnnn";
+
+const LOOK: Act<'static> = Act::Event("app", Level::Info, "look", &[]);
+
+static GO_DOWN: [Act<'static>; 2] = [Act::New("p"), Act::Enter(0)];
+
+static ENTER: [Act<'static>; 1] = [Act::Enter(0)];
+
+static EXIT: [Act<'static>; 1] = [Act::Exit(0)];
+
+static GROW: [Act<'static>; 2] = [Act::Child("p", 0), Act::Close(0)];
+
+static EVENTS: [Act<'static>; 5] = [
+    Act::Event("app", Level::Info, "told", &[]),
+    Act::Event("app", Level::Info, "told", &[("k", "v")]),
+    Act::Event("app", Level::Info, "told", &[("k", LONG), ("k", "v")]),
+    Act::Event(
+        "app",
+        Level::Info,
+        "told",
+        &[
+            ("k", LONG),
+            ("k", LONG),
+            ("k", LONG),
+            ("k", LONG),
+            ("k", LONG),
+        ],
+    ),
+    Act::Event(
+        "app",
+        Level::Info,
+        "told",
+        &[("k", ""), ("k", LONG), ("k", "v")],
+    ),
+];
+
+static LOOKS: [Act<'static>; 4] = [Act::New(LONG), Act::Enter(0), LOOK, LOOK];
+
+static OF_IDS: [Act<'static>; 10] = [
+    Act::Find(0),
+    Act::Child("a", 0),
+    Act::EventIn(0, "m"),
+    Act::Clone(0),
+    Act::Enter(0),
+    Act::Exit(0),
+    Act::Record(0, &[("k", "v")]),
+    Act::Close(0),
+    Act::ExitShown(0),
+    Act::CloseShown(0),
+];
+
+fn calls_of(calls: Calls) -> &'static [Act<'static>] {
+    match calls {
+        Calls::GoDown => &GO_DOWN,
+        Calls::Enter => &ENTER,
+        Calls::Exit => &EXIT,
+        Calls::Grow => &GROW,
+        Calls::Events => &EVENTS,
+        Calls::Look => &LOOKS,
+        Calls::OfIds => &OF_IDS,
+    }
+}
 
 /// A call, or a look; spans stand under the numbers of their ids.
 #[derive(Clone, Copy)]
@@ -46,18 +137,10 @@ pub(crate) enum Act<'a> {
     HeldBelow(u64),
     /// The workers that are inside a span.
     Inside(u64),
-    /// Below the span 1, each under the one before, the spans up to this id, whose handles are given back but the last.
-    Grow(u64),
-    /// The spans from this id to another, each made under the one before and entered.
-    GoDown(u64, u64),
-    /// Those from this id to another, entered.
-    EnterAll(u64, u64),
-    /// Those from this id down to another, left.
-    ComeUp(u64, u64),
+    /// The calls of this list with each of these ids; how many were accepted.
+    Each(Ids<'a>, Calls),
     /// Whether the paths and the messages of all batches have so many owners.
     Owners(&'a [(usize, usize)]),
-    /// Each call that takes an id, on each of these ids.
-    Strangers(&'a [u64]),
     /// A step of the drain.
     Step,
     /// So many steps of the drain, and how many batches, refused notes and lines it had.
@@ -85,33 +168,27 @@ fn number_of(id: Option<&Id>) -> u64 {
 }
 
 // Keeps of a list that is shown how long it is, and its two ends.
-fn keep(list: &mut Option<[u64; 3]>, ids: &[Id]) {
-    *list = Some([
+fn keep(list: &mut [u64; 3], ids: &[Id]) {
+    *list = [
         ids.len() as u64,
         number_of(ids.first()),
         number_of(ids.last()),
-    ]);
-}
-
-// An accepted call shows one list, a refused one none.
-fn shown(closed: Result<bool, Fault>, list: Option<[u64; 3]>) -> Answer {
-    match (closed, list) {
-        (Ok(closed), Some(list)) => Answer::Shown(closed, list),
-        (Err(fault), None) => Answer::Refused(fault),
-        _ => Answer::WronglyShown,
-    }
+    ];
 }
 
 // A call that shows which spans close.
 fn show<O: Outlet>(core: &mut Core<O>, worker: u32, act: &Act, id: Id) -> Answer
     requires { worker < core.old.limits.workers }
 {
-    let mut list = None;
+    let mut list = [0; 3];
     let closed = match act {
         Act::ExitShown(_) => core.exit_with(worker, id, &mut list, keep),
         _ => core.try_close_with(worker, id, &mut list, keep),
     };
-    shown(closed, list)
+    match closed {
+        Ok(closed) => Answer::Shown(closed, list),
+        Err(fault) => Answer::Refused(fault),
+    }
 }
 
 /// The handles, the entries, the count and the fields of a span.
@@ -158,43 +235,12 @@ fn given_by(rt: &impl Abort, alloc: Global, act: &Act) -> Parts {
     }
 }
 
-fn make<O: Outlet>(core: &mut Core<O>, worker: u32, parent: ParentOf, given: &Parts) -> Answer
-    requires { worker < core.old.limits.workers }
-{
-    made(core.new_span(worker, &given.meta, given.fields.as_slice(), parent))
-}
-
-fn tell<O: Outlet>(core: &mut Core<O>, worker: u32, message: &str, given: &Parts) -> Answer
-    requires { worker < core.old.limits.workers }
-{
-    let told = core.event(worker, &given.meta, message, given.fields.as_slice());
-    accepted(told, Answer::Told)
-}
-
-fn tell_in<O: Outlet>(
-    core: &mut Core<O>,
-    worker: u32,
-    message: &str,
-    given: &Parts,
-    parent: ParentOf,
-) -> Answer
-    requires { worker < core.old.limits.workers }
-{
-    let told = core.event_in(
-        worker,
-        &given.meta,
-        message,
-        given.fields.as_slice(),
-        parent,
-    );
-    accepted(told, Answer::Told)
-}
-
-fn record<O: Outlet>(core: &mut Core<O>, worker: u32, id: Id, given: &Parts) -> Answer
-    requires { worker < core.old.limits.workers }
-{
-    let recorded = core.record(worker, id, given.fields.as_slice());
-    accepted(recorded, Answer::Recorded)
+// The span of this number as a parent; 0 for none.
+fn parent_of(rt: &impl Abort, number: u64) -> ParentOf {
+    if number == 0 {
+        return ParentOf::Root;
+    }
+    ParentOf::Of(id(rt, number))
 }
 
 // A call that passes what is given; any other act is none.
@@ -207,16 +253,25 @@ fn pass<O: Outlet>(
 ) -> Answer
     requires { worker < core.old.limits.workers }
 {
+    let (meta, fields) = (&given.meta, given.fields.as_slice());
     match act {
-        Act::New(_) | Act::NewWith(..) => make(core, worker, ParentOf::Current, given),
-        Act::Child(_, 0) => make(core, worker, ParentOf::Root, given),
-        Act::Child(_, parent) => make(core, worker, ParentOf::Of(id(rt, *parent)), given),
-        Act::Event(_, _, message, _) => tell(core, worker, message, given),
-        Act::EventIn(0, message) => tell_in(core, worker, message, given, ParentOf::Root),
-        Act::EventIn(parent, message) => {
-            tell_in(core, worker, message, given, ParentOf::Of(id(rt, *parent)))
+        Act::New(_) | Act::NewWith(..) => {
+            made(core.new_span(worker, meta, fields, ParentOf::Current))
         }
-        Act::Record(number, _) => record(core, worker, id(rt, *number), given),
+        Act::Child(_, parent) => {
+            made(core.new_span(worker, meta, fields, parent_of(rt, *parent)))
+        }
+        Act::Event(_, _, message, _) => {
+            accepted(core.event(worker, meta, message, fields), Answer::Told)
+        }
+        Act::EventIn(parent, message) => {
+            let told = core.event_in(worker, meta, message, fields, parent_of(rt, *parent));
+            accepted(told, Answer::Told)
+        }
+        Act::Record(number, _) => {
+            let recorded = core.record(worker, id(rt, *number), fields);
+            accepted(recorded, Answer::Recorded)
+        }
         _ => Answer::NoCall,
     }
 }
@@ -256,5 +311,77 @@ pub(crate) fn perform<O: Outlet>(
         }
         Act::Count => Answer::Counted(counts(core)),
         _ => pass(rt, core, worker, act, &given_by(rt, alloc, act)),
+    }
+}
+
+// The same call with this id, where it takes one.
+fn with_id<'a>(act: &Act<'a>, id: u64) -> Act<'a> {
+    match *act {
+        Act::Child(name, _) => Act::Child(name, id),
+        Act::Clone(_) => Act::Clone(id),
+        Act::Enter(_) => Act::Enter(id),
+        Act::Exit(_) => Act::Exit(id),
+        Act::Close(_) => Act::Close(id),
+        Act::ExitShown(_) => Act::ExitShown(id),
+        Act::CloseShown(_) => Act::CloseShown(id),
+        Act::Record(_, fields) => Act::Record(id, fields),
+        Act::EventIn(_, message) => Act::EventIn(id, message),
+        Act::Find(_) => Act::Find(id),
+        other => other,
+    }
+}
+
+// Whether a call was made, and was wanted and accepted.
+fn is_accepted(answer: &Answer) -> bool {
+    !matches!(
+        answer,
+        Answer::Refused(_) | Answer::NotWanted | Answer::NoWorker | Answer::NoCall
+    )
+}
+
+// How many of these calls with this id were accepted.
+fn with_one<O: Outlet>(
+    rt: &impl Abort,
+    alloc: Global,
+    core: &mut Core<O>,
+    worker: u32,
+    (id, acts): (u64, &[Act]),
+) -> u64 {
+    let mut accepted = 0u64;
+    for act in acts {
+        let answer = perform(rt, alloc, core, worker, &with_id(act, id));
+        accepted = accepted.saturating_add(u64::from(is_accepted(&answer)));
+    }
+    accepted
+}
+
+/// How many of these calls with each of these ids were accepted.
+pub(crate) fn with_each<O: Outlet>(
+    rt: &impl Abort,
+    alloc: Global,
+    core: &mut Core<O>,
+    worker: u32,
+    (ids, calls): (&Ids, Calls),
+) -> u64 {
+    let mut accepted = 0u64;
+    let count = match ids {
+        Ids::Up(first, last) => last.saturating_sub(*first).saturating_add(1),
+        Ids::Down(first, last) => first.saturating_sub(*last).saturating_add(1),
+        Ids::These(ids) => ids.len() as u64,
+    };
+    for nth in 0..count {
+        let id = nth_of(ids, nth);
+        let more = with_one(rt, alloc, core, worker, (id, calls_of(calls)));
+        accepted = accepted.saturating_add(more);
+    }
+    accepted
+}
+
+// The number at this place.
+fn nth_of(ids: &Ids, nth: u64) -> u64 {
+    match ids {
+        Ids::Up(first, _) => first.saturating_add(nth),
+        Ids::Down(first, _) => first.saturating_sub(nth),
+        Ids::These(ids) => ids.get(nth as usize).copied().unwrap_or(0),
     }
 }

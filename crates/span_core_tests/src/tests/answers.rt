@@ -14,15 +14,13 @@ pub(crate) enum Answer {
     Closed(bool),
     /// Whether a span closed, and of the closing list how long it is, its first id and its last.
     Shown(bool, [u64; 3]),
-    /// A refused call showed a list, or an accepted one none.
-    WronglyShown,
     Recorded,
     Told,
     /// The handles, the entries, the count and the fields of a span.
     Found([u64; 4]),
     Counted([u64; 7]),
-    /// How many were right.
-    Right(u64),
+    /// How many calls were accepted.
+    Accepted(u64),
     Is(bool),
     /// How many notes were told and refused.
     Stepped(Option<Step>),
@@ -80,7 +78,6 @@ fn word(answer: &Answer) -> &'static str {
         Answer::Entered(false) => "= again\n",
         Answer::Closed(true) => "= closed\n",
         Answer::Closed(false) => "= open\n",
-        Answer::WronglyShown => "! wrongly shown\n",
         Answer::Recorded => "= recorded\n",
         Answer::Told => "= told\n",
         Answer::Is(true) => "= yes\n",
@@ -121,7 +118,7 @@ pub(crate) fn push_answer(rt: &impl Abort, alloc: Global, text: &mut Vec<u8>, an
         Answer::Shown(false, list) => push_numbers(rt, alloc, text, "= open", list),
         Answer::Found(numbers) => push_numbers(rt, alloc, text, "= found", numbers),
         Answer::Counted(counts) => push_numbers(rt, alloc, text, "= counts", counts),
-        Answer::Right(number) => push_numbers(rt, alloc, text, "= right", &[*number]),
+        Answer::Accepted(number) => push_numbers(rt, alloc, text, "= accepted", &[*number]),
         Answer::Stepped(Some(Step { told, refused })) => {
             let numbers = [*told as u64, *refused as u64];
             push_numbers(rt, alloc, text, "= step", &numbers);

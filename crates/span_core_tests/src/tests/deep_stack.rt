@@ -1,16 +1,11 @@
 //! Workers that are inside many spans, in the same order and in others, and layers that admit few of them: events told
 //! far above the spans that these admit, and by two workers by turns. What is known of the one's stack isn't believed
 //! of the other's.
-use crate::tests::acts::{Act, perform};
-use crate::tests::answers::Answer;
+use crate::tests::acts::{Act, Calls, Ids};
 use crate::tests::play::{Play, ends, played};
-use span_core::Core;
 use span_id::{Level, Limits};
 use span_layers::Form;
-use span_outlet::Outlet;
 use span_parts_tests::plans::{Plan, Wanted};
-use std::alloc::Global;
-use std::process::Abort;
 
 const LIMITS: Limits = Limits {
     slots: 400,
@@ -19,64 +14,6 @@ const LIMITS: Limits = Limits {
     workers: 1,
     ring: 1,
 };
-
-// Whether the span of this id was made, and the worker then entered it for the first time.
-fn has_entered(made: &Answer, entered: &Answer, id: u64) -> bool {
-    match (made, entered) {
-        (Answer::Made(made), Answer::Entered(true)) => made.get() == id,
-        _ => false,
-    }
-}
-
-/// Makes and enters the spans with the ids from this one to another, each under the one before; how many of them were
-/// made and entered so.
-pub(crate) fn go_down<O: Outlet>(
-    rt: &impl Abort,
-    alloc: Global,
-    core: &mut Core<O>,
-    worker: u32,
-    (first, last): (u64, u64),
-) -> u64 {
-    let mut right = 0u64;
-    for id in first..last.saturating_add(1) {
-        let made = perform(rt, alloc, core, worker, &Act::New("p"));
-        let entered = perform(rt, alloc, core, worker, &Act::Enter(id));
-        right = right.saturating_add(u64::from(has_entered(&made, &entered, id)));
-    }
-    right
-}
-
-/// Enters the spans with the ids from this one to another; how many of them were entered for the first time.
-pub(crate) fn enter_all<O: Outlet>(
-    rt: &impl Abort,
-    alloc: Global,
-    core: &mut Core<O>,
-    worker: u32,
-    (first, last): (u64, u64),
-) -> u64 {
-    let mut right = 0u64;
-    for id in first..last.saturating_add(1) {
-        let entered = perform(rt, alloc, core, worker, &Act::Enter(id));
-        right = right.saturating_add(u64::from(matches!(entered, Answer::Entered(true))));
-    }
-    right
-}
-
-/// Leaves the spans with the ids from this one down to another; how many of them stayed open.
-pub(crate) fn come_up<O: Outlet>(
-    rt: &impl Abort,
-    alloc: Global,
-    core: &mut Core<O>,
-    worker: u32,
-    (first, last): (u64, u64),
-) -> u64 {
-    let mut right = 0u64;
-    for id in (last..first.saturating_add(1)).rev() {
-        let left = perform(rt, alloc, core, worker, &Act::Exit(id));
-        right = right.saturating_add(u64::from(matches!(left, Answer::Closed(false))));
-    }
-    right
-}
 
 const ROOT: Act<'static> = Act::NewWith("root", "root", Level::Info, &[]);
 
@@ -99,10 +36,10 @@ const PLANS: [Plan<'static>; 3] = [
 const ACTS: &[(u32, Act<'static>)] = &[
     (0, ROOT),
     (0, Act::Enter(1)),
-    (0, Act::GoDown(2, 128)),
+    (0, Act::Each(Ids::Up(2, 128), Calls::GoDown)),
     (0, MID),
     (0, Act::Enter(129)),
-    (0, Act::GoDown(130, 300)),
+    (0, Act::Each(Ids::Up(130, 300), Calls::GoDown)),
     (0, SEEK_ROOT),
     (0, SEEK_MID),
     (0, SEEK_ROOT),
@@ -116,7 +53,7 @@ const ACTS: &[(u32, Act<'static>)] = &[
     (0, Act::Exit(6)),
     (0, SEEK_MID),
     (0, SEEK_ROOT),
-    (0, Act::ComeUp(299, 100)),
+    (0, Act::Each(Ids::Down(299, 100), Calls::Exit)),
     (0, SEEK_MID),
     (0, Act::Enter(129)),
     (0, SEEK_MID),
@@ -125,10 +62,10 @@ const ACTS: &[(u32, Act<'static>)] = &[
 const ANSWERS: &str = "\
 = 1
 = entered
-= right 127
+= accepted 254
 = 129
 = entered
-= right 171
+= accepted 342
 L1 event 1 w0 root INFO seek
 = told
 L2 event 129 w0 mid INFO seek
@@ -151,7 +88,7 @@ L2 event 129 w0 mid INFO seek
 = told
 L1 event 1 w0 root INFO seek
 = told
-= right 200
+= accepted 200
 L2 event 0 w0 - INFO seek
 = told
 = entered
@@ -170,15 +107,15 @@ const TWO_WORKERS: Limits = Limits {
 const ACTS_BY_TURNS: &[(u32, Act<'static>)] = &[
     (0, ROOT),
     (0, Act::Enter(1)),
-    (0, Act::GoDown(2, 128)),
+    (0, Act::Each(Ids::Up(2, 128), Calls::GoDown)),
     (0, MID),
     (0, Act::Enter(129)),
-    (0, Act::GoDown(130, 300)),
-    (1, Act::EnterAll(129, 129)),
-    (1, Act::EnterAll(2, 99)),
-    (1, Act::EnterAll(1, 1)),
-    (1, Act::EnterAll(100, 128)),
-    (1, Act::EnterAll(130, 300)),
+    (0, Act::Each(Ids::Up(130, 300), Calls::GoDown)),
+    (1, Act::Each(Ids::Up(129, 129), Calls::Enter)),
+    (1, Act::Each(Ids::Up(2, 99), Calls::Enter)),
+    (1, Act::Each(Ids::Up(1, 1), Calls::Enter)),
+    (1, Act::Each(Ids::Up(100, 128), Calls::Enter)),
+    (1, Act::Each(Ids::Up(130, 300), Calls::Enter)),
     (0, SEEK_MID),
     (0, SEEK_ROOT),
     (0, SEEK_ROOT),
@@ -206,15 +143,15 @@ const ACTS_BY_TURNS: &[(u32, Act<'static>)] = &[
 const ANSWERS_BY_TURNS: &str = "\
 = 1
 = entered
-= right 127
+= accepted 254
 = 129
 = entered
-= right 171
-= right 1
-= right 98
-= right 1
-= right 29
-= right 171
+= accepted 342
+= accepted 1
+= accepted 98
+= accepted 1
+= accepted 29
+= accepted 171
 L2 event 129 w0 mid INFO seek
 = told
 L1 event 1 w0 root INFO seek

@@ -5,12 +5,13 @@ use crate::tests::compare::id;
 use crate::tests::play::{Play, plays};
 use span_core::Core;
 use span_forest::Held;
-use span_id::{Fault, Id, Limits};
+use span_id::{Fault, Limits};
 use span_outlet::Outlet;
 use std::alloc::Global;
+use std::fmt::Display;
 use std::process::Abort;
 
-// The spans, or the refusal, on a line.
+// The spans with their handles and their entries, or the refusal, on a line.
 fn push_held(rt: &impl Abort, alloc: Global, text: &mut Vec<u8>, held: &Result<Vec<Held>, Fault>) {
     match held {
         Ok(spans) => push_holders(rt, alloc, text, spans.as_slice()),
@@ -18,7 +19,6 @@ fn push_held(rt: &impl Abort, alloc: Global, text: &mut Vec<u8>, held: &Result<V
     }
 }
 
-// The spans with their handles and their entries on a line.
 fn push_holders(rt: &impl Abort, alloc: Global, text: &mut Vec<u8>, spans: &[Held]) {
     push(rt, text, b"=");
     for span in spans {
@@ -29,21 +29,11 @@ fn push_holders(rt: &impl Abort, alloc: Global, text: &mut Vec<u8>, spans: &[Hel
     push(rt, text, b"\n");
 }
 
-// The ids on a line.
-fn push_ids(rt: &impl Abort, alloc: Global, text: &mut Vec<u8>, ids: &[Id]) {
+// Ids, or the numbers of workers, on a line.
+fn push_list<T: Display>(rt: &impl Abort, alloc: Global, text: &mut Vec<u8>, list: &[T]) {
     push(rt, text, b"=");
-    for id in ids {
-        let number = format!(in alloc; " {id}").expect(rt, "memory");
-        push(rt, text, number.as_bytes());
-    }
-    push(rt, text, b"\n");
-}
-
-// The workers on a line.
-fn push_workers(rt: &impl Abort, alloc: Global, text: &mut Vec<u8>, workers: &[u32]) {
-    push(rt, text, b"=");
-    for worker in workers {
-        let number = format!(in alloc; " w{worker}").expect(rt, "memory");
+    for one in list {
+        let number = format!(in alloc; " {one}").expect(rt, "memory");
         push(rt, text, number.as_bytes());
     }
     push(rt, text, b"\n");
@@ -60,13 +50,13 @@ pub(crate) fn push_asked<O: Outlet>(
     match act {
         Act::Open => {
             let ids = core.open_spans().expect(rt, "memory");
-            push_ids(rt, alloc, text, ids.as_slice());
+            push_list(rt, alloc, text, ids.as_slice());
         }
         Act::AllHeld => push_held(rt, alloc, text, &core.held_spans()),
         Act::HeldBelow(number) => push_held(rt, alloc, text, &core.holders_of(id(rt, *number))),
         Act::Inside(number) => {
             let workers = core.workers_inside(id(rt, *number)).expect(rt, "memory");
-            push_workers(rt, alloc, text, workers.as_slice());
+            push_list(rt, alloc, text, workers.as_slice());
         }
         _ => return false,
     }
@@ -99,14 +89,14 @@ const CHAIN_ANSWERS: &str = "\
 = 2:0/2 3:1/0
 = 3:1/0
 ! unknown
-= w1 w2
+= 1 2
 =
 = closed
 = 2:0/2
 = open
-= w1 w2
+= 1 2
 = open
-= w1
+= 1
 = closed
 ! unknown
 =
@@ -157,7 +147,7 @@ const FAN_ANSWERS: &str = "\
 = entered
 = 2:1/0 3:2/0 4:1/1
 = 2:1/0
-= w2
+= 2
 = open
 = 2:1/0 3:2/0 4:0/1
 = open

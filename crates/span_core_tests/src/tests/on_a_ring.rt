@@ -1,9 +1,8 @@
 //! A core whose outlet is a ring: a full ring refuses, and a drain tells.
-use crate::tests::acts::{Act, perform};
+use crate::tests::acts::{Act, perform, with_each};
 use crate::tests::answers::{Answer, push, push_answer};
 use crate::tests::hooks::{add_plan, layers};
 use crate::tests::play::{Play, SMALL, Transcript, ends};
-use crate::tests::strangers::unknown_strangers;
 use crate::tests::{strangers, told_again};
 use span_core::Core;
 use span_id::Limits;
@@ -33,7 +32,9 @@ fn answer(
     match act {
         Act::Step => Answer::Stepped(drain.step()),
         Act::Drain(steps) => drain_on(drain, *steps),
-        Act::Strangers(numbers) => Answer::Right(unknown_strangers(rt, alloc, core, numbers)),
+        Act::Each(ids, calls) => {
+            Answer::Accepted(with_each(rt, alloc, core, *worker, (ids, *calls)))
+        }
         _ => perform(rt, alloc, core, *worker, act),
     }
 }

@@ -21,11 +21,6 @@ const LIMITS: Limits = Limits {
     ring: 4,
 };
 
-// What writes this down.
-fn noted(rt: &impl Abort, alloc: Global, noting: Noting) -> Watch {
-    Watch::new(alloc, noting, Refused::None).expect(rt, "memory")
-}
-
 // A core over a ring with one layer, whose closures do what the watch says, and the ring's drain.
 fn opened(rt: &impl Abort, alloc: Global, watch: &Watch) -> (Core<Ring>, Drain) {
     let mut layers = Layers::new(alloc);
@@ -67,7 +62,7 @@ static OWNERS: [(Act<'static>, u64); 9] = [
 #[test]
 fn a_path_is_given_up_with_its_span(rt: HostRuntime) {
     let alloc = rt.alloc();
-    let watch = noted(&rt, alloc, Noting::Owners);
+    let watch = Watch::new(alloc, Noting::Owners, Refused::None).expect(&rt, "memory");
     let (mut core, mut drain) = opened(&rt, alloc, &watch);
     for (act, owners) in &OWNERS {
         let found = noted_at(&rt, alloc, &mut core, &mut drain, &watch, act);
@@ -93,7 +88,7 @@ fn room_of(
 #[test]
 fn an_earlier_events_memory_is_used_again(rt: HostRuntime) {
     let alloc = rt.alloc();
-    let watch = noted(&rt, alloc, Noting::Room);
+    let watch = Watch::new(alloc, Noting::Room, Refused::None).expect(&rt, "memory");
     let (mut core, mut drain) = opened(&rt, alloc, &watch);
     let first = room_of(&rt, alloc, &mut core, &mut drain, &watch, 33);
     same(&rt, first, 33, "the first");

@@ -1,11 +1,9 @@
 //! Calls on a core that keeps its lines, played from first to last.
 ghost use Rattle.std.specs.Prelude.{◌≡◌, []};
 
-use crate::tests::acts::{Act, perform};
+use crate::tests::acts::{Act, perform, with_each};
 use crate::tests::answers::{Answer, push_answer, push_lines};
-use crate::tests::chain::grow;
 use crate::tests::compare::same;
-use crate::tests::deep_stack::{come_up, enter_all, go_down};
 use crate::tests::holding::push_asked;
 use crate::tests::hooks::layers;
 use crate::tests::sharing::are_shared;
@@ -56,28 +54,12 @@ fn answer<V: Say>(
     core: &mut Core<Kept<V>>,
     (worker, act): &(u32, Act),
 ) -> Answer {
-    let worker = *worker;
     match act {
-        Act::Grow(length) => Answer::Right(grow(rt, alloc, core, *length)),
-        Act::GoDown(first, last) => Answer::Right(go_down(
-            rt,
-            alloc,
-            core,
-            worker,
-            (*first, *last),
-        )),
-        Act::EnterAll(first, last) => {
-            Answer::Right(enter_all(rt, alloc, core, worker, (*first, *last)))
+        Act::Each(ids, calls) => {
+            Answer::Accepted(with_each(rt, alloc, core, *worker, (ids, *calls)))
         }
-        Act::ComeUp(first, last) => Answer::Right(come_up(
-            rt,
-            alloc,
-            core,
-            worker,
-            (*first, *last),
-        )),
         Act::Owners(owners) => Answer::Is(are_shared(core.outlet().batches(), owners)),
-        _ => perform(rt, alloc, core, worker, act),
+        _ => perform(rt, alloc, core, *worker, act),
     }
 }
 
@@ -132,7 +114,8 @@ pub(crate) fn played(rt: &impl Abort, alloc: Global, of: &Play) -> Transcript {
     played_on(rt, alloc, filters, Kept::new(alloc, tellers), of)
 }
 
-fn played_on<V: Say>(
+/// The same with these filters and this outlet.
+pub(crate) fn played_on<V: Say>(
     rt: &impl Abort,
     alloc: Global,
     filters: Filters,
@@ -144,16 +127,15 @@ fn played_on<V: Say>(
     let mut core = keeping(rt, alloc, &of.limits, filters, outlet);
     let mut text = Vec::new(alloc);
     perform_all(rt, alloc, &mut core, &mut text, of.acts);
-    written(&core, text)
+    written(core, text)
 }
 
 /// What a core wrote, and what it has in the end.
-pub(crate) fn written<V: Say>(core: &Core<Kept<V>>, text: Vec<u8>) -> Transcript {
-    Transcript {
-        text,
-        open: core.len(),
-        missed: core.outlet().refused(),
-    }
+pub(crate) fn written<V: Say>(core: Core<Kept<V>>, text: Vec<u8>) -> Transcript {
+    let open = core.len();
+    let kept = core.into_outlet();
+    let missed = kept.refused();
+    Transcript { text, open, missed }
 }
 
 /// This is the text, and in the end so many spans are open and so many notes were missed.

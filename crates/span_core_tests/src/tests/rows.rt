@@ -206,21 +206,13 @@ static LONGER: [Play<'static>; 4] = [
 ];
 
 #[test]
-fn spans_and_events_are_told(rt: HostRuntime) {
+fn plays_are_answered_and_told(rt: HostRuntime) {
     for of in &SPANS_AND_EVENTS {
         plays(&rt, rt.alloc(), of);
     }
-}
-
-#[test]
-fn what_is_not_wanted_or_refused(rt: HostRuntime) {
     for of in &WANTED_AND_REFUSED {
         plays(&rt, rt.alloc(), of);
     }
-}
-
-#[test]
-fn longer_plays(rt: HostRuntime) {
     for of in &LONGER {
         plays(&rt, rt.alloc(), of);
     }

@@ -139,7 +139,7 @@ fn tell<V: Say>(
     share_in_turn(rt, alloc, &mut core, &mut text, (&BAD_WAYS, bad));
     share_in_turn(rt, alloc, &mut core, &mut text, (&GOOD_WAYS, good));
     perform_all(rt, alloc, &mut core, &mut text, &CLOSES);
-    ends(rt, &written(&core, text), TOLD, (0, 0));
+    ends(rt, &written(core, text), TOLD, (0, 0));
 }
 
 #[test]

@@ -1,6 +1,6 @@
 //! Paths that are told again at a span whose layers are so many that the paths of two take each other's place.
 use crate::tests::acts::Act;
-use crate::tests::play::{Play, SMALL, plays};
+use crate::tests::play::{Play, SMALL};
 use span_id::{Level, Limits};
 use span_layers::Form;
 use span_parts_tests::plans::{EVERYTHING, Plan, Wanted};
@@ -18,29 +18,6 @@ const SIX: [Plan<'static>; 6] = [ALL, APP, ALL, APP, APP, ALL];
 const Q: Act<'static> = Act::NewWith("q", "lib", Level::Info, &[]);
 
 const HI: Act<'static> = Act::Event("app", Level::Info, "hi", &[]);
-
-const KEPT: Play<'static> = Play {
-    limits: LIMITS,
-    plans: &SIX,
-    acts: &[
-        (0, Q),
-        (0, Act::Enter(1)),
-        (0, Act::New("b")),
-        (0, Act::Enter(2)),
-        (0, HI),
-        (0, HI),
-        (0, Act::Exit(2)),
-        (0, Act::Exit(1)),
-        (0, Act::Close(1)),
-        (0, Act::Close(2)),
-    ],
-    expected: "L0 new 1 w0 q\nL2 new 1 w0 q\nL5 new 1 w0 q\n= 1\n= entered\nL0 new 2 w0 q:b\nL1 new 2 w0 b\nL2 new 2 w0 q:b\nL3 new 2 w0 b\nL4 new 2 w0 b\nL5 new 2 w0 q:b\n= 2\n= entered\nL0 event 2 w0 q:b INFO hi\nL1 event 2 w0 b INFO hi\nL2 event 2 w0 q:b INFO hi\nL3 event 2 w0 b INFO hi\nL4 event 2 w0 b INFO hi\nL5 event 2 w0 q:b INFO hi\n= told\nL0 event 2 w0 q:b INFO hi\nL1 event 2 w0 b INFO hi\nL2 event 2 w0 q:b INFO hi\nL3 event 2 w0 b INFO hi\nL4 event 2 w0 b INFO hi\nL5 event 2 w0 q:b INFO hi\n= told\n= open\n= open\n= open\n= closed\n",
-};
-
-#[test]
-fn layers_take_each_others_place(rt: HostRuntime) {
-    plays(&rt, rt.alloc(), &KEPT);
-}
 
 const ON_A_RING: [(u32, Act<'static>); 7] = [
     (0, Q),
@@ -88,7 +65,7 @@ const THREE_SLOTS: Limits = Limits {
     ring: 32,
 };
 
-// The spans `e` and `d` get the slot that `c` had. The last act is for a ring.
+// The spans `e` and `d` get the slot that `c` had.
 const FROM_THE_FIRST_NOTE_ON: [(u32, Act<'static>); 23] = [
     (0, R),
     (0, Act::Enter(1)),
@@ -114,115 +91,6 @@ const FROM_THE_FIRST_NOTE_ON: [(u32, Act<'static>); 23] = [
     (0, Act::Close(1)),
     (0, Act::Drain(22)),
 ];
-
-const FROM_THE_FIRST_NOTE_ON_ANSWERS: &str = "\
-L0 new 1 w0 r
-L3 new 1 w0 r
-= 1
-L0 enter 1 w0 r
-L2 enter 1 w0 r
-= entered
-L0 new 2 w0 r:p
-L1 new 2 w0 p
-L3 new 2 w0 r:p
-L6 new 2 w0 p
-= 2
-L0 enter 2 w0 r:p
-L1 enter 2 w0 p
-L4 enter 2 w0 p
-= entered
-L0 new 3 w0 r:p:c
-L3 new 3 w0 r:p:c
-= 3
-L0 enter 3 w0 r:p:c
-L2 enter 3 w0 r:c
-= entered
-L0 event 3 w0 r:p:c INFO hi
-L1 event 2 w0 p INFO hi
-L3 event 3 w0 r:p:c INFO hi
-L4 event 2 w0 p INFO hi
-L5 event 3 w0 r:p:c INFO hi
-L6 event 2 w0 p INFO hi
-= told
-L0 exit 3 w0 r:p:c
-L2 exit 3 w0 r:c
-L5 exit 3 w0 r:p:c
-= open
-L0 close 3 w0 r:p:c
-L3 close 3 w0 r:p:c
-L5 close 3 w0 r:p:c
-= closed
-L0 new 16777219 w0 r:p:e
-L3 new 16777219 w0 r:p:e
-= 16777219
-L0 enter 16777219 w0 r:p:e
-L2 enter 16777219 w0 r:e
-= entered
-L0 exit 16777219 w0 r:p:e
-L2 exit 16777219 w0 r:e
-L5 exit 16777219 w0 r:p:e
-= open
-L0 close 16777219 w0 r:p:e
-L3 close 16777219 w0 r:p:e
-L5 close 16777219 w0 r:p:e
-= closed
-L0 new 33554435 w0 r:p:d
-L1 new 33554435 w0 p:d
-L3 new 33554435 w0 r:p:d
-L6 new 33554435 w0 p:d
-= 33554435
-L0 enter 33554435 w0 r:p:d
-L1 enter 33554435 w0 p:d
-L4 enter 33554435 w0 p:d
-= entered
-L0 event 33554435 w0 r:p:d INFO hi
-L1 event 33554435 w0 p:d INFO hi
-L3 event 33554435 w0 r:p:d INFO hi
-L4 event 33554435 w0 p:d INFO hi
-L5 event 33554435 w0 r:p:d INFO hi
-L6 event 33554435 w0 p:d INFO hi
-= told
-L0 exit 33554435 w0 r:p:d
-L1 exit 33554435 w0 p:d
-L4 exit 33554435 w0 p:d
-L5 exit 33554435 w0 r:p:d
-= open
-L0 close 33554435 w0 r:p:d
-L1 close 33554435 w0 p:d
-L3 close 33554435 w0 r:p:d
-L5 close 33554435 w0 r:p:d
-= closed
-L0 exit 2 w0 r:p
-L1 exit 2 w0 p
-L4 exit 2 w0 p
-L5 exit 2 w0 r:p
-= open
-L0 close 2 w0 r:p
-L1 close 2 w0 p
-L3 close 2 w0 r:p
-L5 close 2 w0 r:p
-= closed
-L0 exit 1 w0 r
-L2 exit 1 w0 r
-L5 exit 1 w0 r
-= open
-L0 close 1 w0 r
-L3 close 1 w0 r
-L5 close 1 w0 r
-= closed
-";
-
-// What a new span's notes told is told again to the same layers and to others, and not at the spans that get its slot.
-#[test]
-fn a_new_spans_paths_are_told_again(rt: HostRuntime) {
-    let of = Play {
-        limits: THREE_SLOTS,
-        plans: &SEVEN,
-        acts: &FROM_THE_FIRST_NOTE_ON[..22],
-        expected: FROM_THE_FIRST_NOTE_ON_ANSWERS,
-    };
-    plays(&rt, rt.alloc(), &of);
-}
 
 const FROM_THE_FIRST_NOTE_ON_LINES: &str = "\
 = 1
@@ -322,6 +190,7 @@ const FROM_THE_FIRST_NOTE_ON_LINES: &str = "\
 21 2 5 close 1 w0 r
 ";
 
+// What a new span's notes told is told again to the same layers and to others, and not at the spans that get its slot.
 pub(crate) const TOLD_AGAIN_ON_A_RING: Play<'static> = Play {
     limits: THREE_SLOTS,
     plans: &SEVEN,

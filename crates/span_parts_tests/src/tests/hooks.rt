@@ -44,12 +44,3 @@ pub(crate) fn add_plan(
     let hooks = hooks(rt, alloc, &watch);
     add(alloc, layers, plan, hooks).expect(rt, "a layer");
 }
-
-/// Layers of these plans.
-pub(crate) fn layers(rt: &impl Abort, alloc: Global, plans: &[Plan]) -> Layers {
-    let mut layers = Layers::new(alloc);
-    for plan in plans {
-        add_plan(rt, alloc, &mut layers, plan, Refused::None);
-    }
-    layers
-}

@@ -2,21 +2,23 @@
 use crate::tests::compare::{crosses_threads, holds, same};
 use crate::tests::layers::fixtures::{are_fields, fields};
 use span_id::{Bits, Fields, Level};
+use std::alloc::Global;
+use std::process::Abort;
+
+static LEVELS: [Level; 5] = [
+    Level::Error,
+    Level::Warn,
+    Level::Info,
+    Level::Debug,
+    Level::Trace,
+];
 
 #[test]
 fn orders_levels_by_verbosity(rt: HostRuntime) {
-    let levels = [
-        Level::Error,
-        Level::Warn,
-        Level::Info,
-        Level::Debug,
-        Level::Trace,
-    ];
-    for pair in levels.windows(2) {
-        holds(&rt, pair[0] < pair[1], "the levels in their order");
-    }
-    for (verbosity, level) in levels.iter().enumerate() {
+    for (verbosity, level) in LEVELS.iter().enumerate() {
         same(&rt, usize::from(level.verbosity()), verbosity, *level);
+        let more = LEVELS.iter().filter(|other| level < *other).count();
+        same(&rt, more, 4usize.saturating_sub(verbosity), *level);
     }
 }
 
@@ -34,22 +36,24 @@ fn makes_sets_of_others(rt: HostRuntime) {
 
 static GROWN: [(&str, &str); 4] = [("k", "1"), ("l", "2"), ("k", "3"), ("k", "3")];
 
-// None share the list of two, which grows beside its other owner, and then alone.
+// None share the list of two, and grow beside its other owner, and then alone.
+fn grow(rt: &impl Abort, alloc: Global, grown: &mut Fields, kept: &Fields, more: &Fields) {
+    holds(rt, grown.is_empty() & (*grown != *kept), "none");
+    grown.extend_shared(alloc, kept).expect(rt, "memory");
+    holds(rt, !grown.is_empty() & (*grown == *kept), "two");
+    grown.extend_shared(alloc, more).expect(rt, "memory");
+    are_fields(rt, grown, &GROWN[..3]);
+    are_fields(rt, kept, &GROWN[..2]);
+    grown.extend(alloc, more.as_slice()).expect(rt, "memory");
+}
+
 #[test]
 fn fields_grow(rt: HostRuntime) {
     let alloc = rt.alloc();
     let kept = fields(&rt, alloc, &GROWN[..2]);
     let more = fields(&rt, alloc, &[("k", "3")]);
     let mut grown = Fields::none();
-    holds(&rt, grown.is_empty() && grown != kept, "none");
-    grown.extend_shared(alloc, &kept).expect(&rt, "memory");
-    holds(&rt, !grown.is_empty() && grown == kept, "two");
-    grown.extend_shared(alloc, &more).expect(&rt, "memory");
-    are_fields(&rt, &grown, &GROWN[..3]);
-    are_fields(&rt, &kept, &GROWN[..2]);
-    drop(crosses_threads(kept));
-    grown.extend(alloc, more.as_slice()).expect(&rt, "memory");
-    let shared = grown.share().expect(&rt, "memory");
+    grow(&rt, alloc, &mut grown, &kept, &more);
+    let shared = crosses_threads(grown.share().expect(&rt, "memory"));
     are_fields(&rt, &shared, &GROWN);
-    holds(&rt, shared == fields(&rt, alloc, &GROWN), "four");
 }

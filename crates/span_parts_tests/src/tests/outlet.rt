@@ -4,6 +4,4 @@ pub(crate) mod batches;
 mod buffers;
 mod calls;
 mod drain;
-mod last_lines;
-mod latest;
 mod line_reader;

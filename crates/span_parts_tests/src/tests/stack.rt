@@ -16,27 +16,15 @@ const AGAIN: Stands = (true, false, Some(false));
 
 const NOWHERE: Stands = (false, false, None);
 
-// The length, the number of the current span and of the one on top, and how two spans stand there.
-type State = (usize, Option<u64>, Option<u64>, [Stands; 2]);
+// The length, the current span, and the one on top.
+type Ends = (usize, Option<Id>, Option<Id>);
 
 fn stands(stack: &SpanStack, id: Id) -> Stands {
     (stack.has(id), stack.stands_once(id), stack.would_pop(id))
 }
 
-fn state(stack: &SpanStack) -> State {
-    let (current, top) = (stack.current(), stack.top());
-    let two = [stands(stack, Id::pack(0, 0)), stands(stack, Id::pack(1, 0))];
-    (stack.len(), current.map(Id::get), top.map(Id::get), two)
-}
-
-// The number of the span whose topmost entry is taken out, what that answers, and what it leaves.
-type Pop = (u64, Option<bool>, State);
-
-fn pops_to(rt: &impl Abort, stack: &mut SpanStack, pop: &Pop) {
-    let (number, first, left) = *pop;
-    let id = Id::from_u64(number).expect(rt, "an id");
-    same(rt, stack.pop(id), first, number);
-    same(rt, state(stack), left, number);
+fn ends(stack: &SpanStack) -> Ends {
+    (stack.len(), stack.current(), stack.top())
 }
 
 // A stack into which the first span, the second, and the first again were put by what is known of them.
@@ -49,31 +37,20 @@ fn pushed_as_known(alloc: Global) -> SpanStack {
     stack
 }
 
-const POPS: [Pop; 5] = [
-    (1, Some(false), (2, Some(2), Some(2), [ONCE, ONCE])),
-    (1, Some(true), (1, Some(2), Some(2), [NOWHERE, ONCE])),
-    (1, None, (1, Some(2), Some(2), [NOWHERE, ONCE])),
-    (2, Some(true), (0, None, None, [NOWHERE, NOWHERE])),
-    (2, None, (0, None, None, [NOWHERE, NOWHERE])),
-];
-
-#[test]
-fn pushes_what_is_known_to_stand_there_or_not(rt: HostRuntime) {
-    let mut stack = pushed_as_known(rt.alloc());
-    let made = (3, Some(2), Some(1), [AGAIN, ONCE]);
-    same(&rt, state(&stack), made, "three entries");
-    for pop in &POPS {
-        pops_to(&rt, &mut stack, pop);
-    }
-    holds(&rt, stack.is_empty(), "the stack is empty at the end");
-}
-
-#[test]
-fn walks_a_deep_stack_at_once(rt: HostRuntime) {
-    let mut stack = SpanStack::new(rt.alloc());
-    push_deep(&rt, &mut stack);
-    walks_often(&rt, &stack);
-    pops_the_last(&rt, &mut stack);
+// They are taken out.
+fn empties(rt: &impl Abort, stack: &mut SpanStack) {
+    let (one, two) = (Id::pack(0, 0), Id::pack(1, 0));
+    same(rt, ends(stack), (3, Some(two), Some(one)), "three entries");
+    same(rt, stands(stack, one), AGAIN, "the first span");
+    same(rt, stack.pop(one), Some(false), "it stays");
+    same(rt, ends(stack), (2, Some(two), Some(two)), "two entries");
+    same(rt, stands(stack, one), ONCE, "the first span");
+    same(rt, stack.pop(one), Some(true), "it leaves");
+    same(rt, stack.pop(one), None, "it is gone");
+    same(rt, stands(stack, one), NOWHERE, "the first span");
+    same(rt, stack.pop(two), Some(true), "the second leaves");
+    same(rt, ends(stack), (0, None, None), "no entry");
+    holds(rt, stack.is_empty(), "the stack is empty at the end");
 }
 
 fn push_deep(rt: &impl Abort, stack: &mut SpanStack) {
@@ -92,9 +69,10 @@ fn walks_often(rt: &impl Abort, stack: &SpanStack) {
     same(rt, end, Some(Id::pack(0, 0)), "the walk's end");
 }
 
-fn pops_the_last(rt: &impl Abort, stack: &mut SpanStack) {
-    let first = stack.pop(Id::pack(29999, 0));
-    same(rt, first, Some(true), "the last span");
-    holds(rt, stack.has(Id::pack(0, 0)), "the first span stands there");
-    same(rt, stack.current(), Some(Id::pack(29998, 0)), "current");
+#[test]
+fn a_stack_of_few_spans_and_of_many(rt: HostRuntime) {
+    let mut stack = pushed_as_known(rt.alloc());
+    empties(&rt, &mut stack);
+    push_deep(&rt, &mut stack);
+    walks_often(&rt, &stack);
 }

@@ -1,9 +1,7 @@
 //! The calls of a registry run, with their answers and their reports.
 mod acts;
-mod asked;
 mod backlog;
 mod caller;
-mod ended;
 mod ended_by_reading;
 mod ended_on_a_ring;
 mod endings;
@@ -11,11 +9,9 @@ mod handed_on;
 mod jobs;
 mod layers;
 mod names;
-mod on_core;
 mod on_registry;
 mod parts;
 mod same;
 mod scripts;
-mod steps;
 mod strangers;
 mod threads;

@@ -1,5 +1,6 @@
 //! The same rounds on a registry with its lock, whose reader is in the same thread.
 ghost use Rattle.std.specs.Prelude.{◌≡◌, [], Some};
+ghost use Rattle.span_registry.specs.Blanks.{blanks_of};
 
 use crate::call_costs::core_loop::{PLACES, read_all};
 use crate::ended::Made;
@@ -9,7 +10,9 @@ use crate::texts::Texts;
 use span_id::{Fault, Limits};
 use span_layers::{Filters, Layers, Say};
 use span_outlet::LineReader;
-use span_registry::{Blanks, DroppableHandle, Handle, ParentOf, Registry, Ring, Setup, Worker};
+use span_registry::{
+    Blanks, DroppableHandle, Handle, ParentOf, RefusedClose, Registry, Ring, Setup, Worker,
+};
 use std::alloc::Global;
 use std::marker::Brand;
 use std::sync::Wait;
@@ -61,15 +64,7 @@ fn run<H: Ledger, C: Ledger, S: Setup, V: Say + Drop, R: Wait>(
     requires workers { S.limits.workers ≡ 1 }
     requires setup { (filters.rules ≡ S.rules) × ([] ≡ S.forms) × (Some ring.name ≡ S.ring) }
     requires ring { ring.sent ≡ [] }
-    requires blanks { blanks ≡ record {
-      limits = S.limits;
-      handles = H.name;
-      handle_parts = H.parts;
-      calls = C.name;
-      call_parts = C.parts;
-      table = S.table;
-      history = S.history;
-    } }
+    requires blanks { blanks ≡ blanks_of S.limits H.name H.parts C.name C.parts S.table S.history }
 {
     let (registry, mut workers) = Registry::<H, C, S, Ring>::new(alloc, filters, ring, blanks)?;
     let Some(worker) = workers.get_mut(0) else {
@@ -135,7 +130,7 @@ fn round<H: Ledger, C: Ledger, S: Setup, R: Wait>(
     visit(rt, registry, worker, texts, &mut held.handle)?;
     match registry.try_close(rt, worker, held.into_handle()) {
         Ok(_closed) => Ok(()),
-        Err((handle, fault)) => {
+        Err(RefusedClose { handle, fault }) => {
             drop(handle.into_share());
             Err(fault)
         }

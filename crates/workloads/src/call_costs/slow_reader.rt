@@ -10,7 +10,7 @@ use crate::soak::soaked::beside_a_reader;
 use crate::texts::Texts;
 use span_id::{Fault, Limits};
 use span_layers::Layers;
-use span_registry::{DroppableHandle, ParentOf, Registry, Ring, Setup, Worker};
+use span_registry::{DroppableHandle, ParentOf, RefusedClose, Registry, Ring, Setup, Worker};
 use std::alloc::Global;
 use std::sync::Wait;
 use std::sync::ledger::Ledger;
@@ -137,7 +137,7 @@ fn close<H: Ledger, C: Ledger, S: Setup, R: Wait>(
     for _ in rt.forever() {
         match registry.try_close(rt, worker, held.into_handle()) {
             Ok(_closed) => return Ok(()),
-            Err((handle, fault)) => {
+            Err(RefusedClose { handle, fault }) => {
                 held = DroppableHandle { handle };
                 let Fault::Backlog = fault else {
                     return Err(fault);

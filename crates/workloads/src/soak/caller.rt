@@ -8,7 +8,7 @@ use crate::soak::dice::Dice;
 use crate::soak::returned::Returned;
 use crate::texts::Texts;
 use span_id::{Fault, Id};
-use span_registry::{DroppableHandle, ParentOf, Registry, Ring, Setup, Worker};
+use span_registry::{DroppableHandle, ParentOf, RefusedClose, Registry, Ring, Setup, Worker};
 use std::alloc::Global;
 use std::sync::Wait;
 use std::sync::ledger::Ledger;
@@ -308,7 +308,7 @@ impl<H: Ledger, C: Ledger, S: Setup> Caller<H, C, S> {
         let held = self.hands.swap_remove(place);
         match registry.try_close(rt, &mut self.worker, held.into_handle()) {
             Ok(_closed) => Ok(()),
-            Err((handle, fault)) => {
+            Err(RefusedClose { handle, fault }) => {
                 self.hands.push_reserved(DroppableHandle { handle });
                 Err(fault)
             }

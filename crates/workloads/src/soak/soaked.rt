@@ -1,6 +1,7 @@
 //! A whole run, from the making of its registry to its last line.
 ghost use Rattle.std.specs.Prelude.{◌≡◌, ◌+◌, ◌<◌, ◌↔◌, [], Some, IfOk};
 ghost use Rattle.span_layers.specs.Layers.{filters_in, forms_in};
+ghost use Rattle.span_registry.specs.Blanks.{blanks_of};
 ghost use Rattle.workloads.specs.Back.{IsMadeByNew};
 ghost use Rattle.workloads.specs.ReadOut.{EndsReadOut};
 
@@ -102,15 +103,7 @@ fn run<
     requires setup { (filters.rules ≡ S.rules) × ([] ≡ S.forms) × (Some ring.name ≡ S.ring) }
     requires ring { (ring.sent ≡ []) × (Some reader.name ≡ S.ring) }
     requires given { reader.given ≡ [] }
-    requires blanks { blanks ≡ record {
-      limits = S.limits;
-      handles = H.name;
-      handle_parts = H.parts;
-      calls = C.name;
-      call_parts = C.parts;
-      table = S.table;
-      history = S.history;
-    } }
+    requires blanks { blanks ≡ blanks_of S.limits H.name H.parts C.name C.parts S.table S.history }
     ensures calls { IfOk result (λ ended. IsMadeByNew plan S.limits.workers ended.counts.calls) }
     ensures handles { IfOk result (λ ended. ended.counts.handles ≡ 0) }
     ensures empty { IfOk result (λ ended. (ended.counts.left ≡ 0) ↔ (ended.counts.entries ≡ 0)) }

@@ -1,11 +1,11 @@
-//! Which closures are called, and how often.
+//! Which closures are called, and how often. Hooks and what is made of them go from thread to thread.
 use crate::plans::{Wanted, add};
-use crate::tests::compare::same;
+use crate::tests::compare::{crosses_threads, same};
 use crate::tests::hooks::hooks;
 use crate::tests::layers::fixtures::{admission, note, tells};
 use crate::watch::{Noting, Refused, Watch};
-use span_id::Level;
-use span_layers::{Filters, Form, Layers, Say, Tellers};
+use span_id::{Fault, Level};
+use span_layers::{Filters, Form, Kind, Layers, Say, Tellers};
 use std::alloc::Global;
 use std::process::Abort;
 
@@ -28,7 +28,7 @@ pub(crate) fn noting_layers(
     for (form, (of_rule, of_note)) in layers {
         let noting = Noting::Digits(*of_rule, *of_note);
         let watch = calls.with(noting).expect(rt, "memory");
-        let hooks = hooks(rt, alloc, &watch);
+        let hooks = crosses_threads(hooks(rt, alloc, &watch));
         let plan = (*form, Wanted::All, "app", Level::Info);
         add(alloc, &mut made, &plan, hooks).expect(rt, "a layer");
     }
@@ -47,6 +47,7 @@ fn each_layer_is_asked_once(rt: HostRuntime) {
     let alloc = rt.alloc();
     let calls = no_calls(&rt, alloc, Refused::None);
     let (filters, _) = two_layers(&rt, alloc, &calls);
+    let filters = crosses_threads(filters);
     same(&rt, calls.taken(), 0, "no call");
     asks_each(&rt, alloc, &calls, &filters);
 }
@@ -62,11 +63,13 @@ fn asks_each(rt: &impl Abort, alloc: Global, calls: &Watch, filters: &Filters) {
 #[test]
 fn a_layer_writes_its_own_notes(rt: HostRuntime) {
     let alloc = rt.alloc();
-    let calls = no_calls(&rt, alloc, Refused::None);
+    let calls = no_calls(&rt, alloc, Refused::At(Kind::OnExit));
     let (_, tellers) = two_layers(&rt, alloc, &calls);
+    let tellers = crosses_threads(tellers);
     asks_one(&rt, alloc, &calls, &tellers);
     asks_none(&rt, alloc, &tellers.formatters);
     same(&rt, calls.taken(), 0, "no call");
+    is_refused(&rt, alloc, &tellers);
 }
 
 const COMPACT: &str = "new 1 w3 a k=1";
@@ -93,4 +96,12 @@ fn asks_none<S: Say>(rt: &impl Abort, alloc: Global, formatters: &S) {
     let note = note(rt, alloc, u32::MAX);
     let text = formatters.say(Form::Compact, &note).expect(rt, "memory");
     same(rt, text.as_slice(), COMPACT.as_bytes(), "no layer");
+}
+
+// A text that the layer's closure was refused memory for is `Memory`.
+fn is_refused(rt: &impl Abort, alloc: Global, tellers: &Tellers) {
+    let mut note = note(rt, alloc, 0);
+    note.kind = Kind::OnExit;
+    assert!(rt; (note.layer as usize) < tellers.len());
+    same(rt, tellers.say(&note).err(), Some(Fault::Memory), "a note");
 }

@@ -1,30 +1,11 @@
-//! What the tests of layers have in common: layers, fields and notes, and what is asked of the parts of layers.
-use crate::plans::{Plan, layer_with};
-use crate::tests::compare::{holds, same};
-use crate::tests::hooks::hooks;
+//! What the tests of layers have in common: fields and notes, and what is asked of the parts of layers.
+use crate::tests::compare::same;
 use crate::values::{list, meta};
-use crate::watch::{Noting, Refused, Watch};
 use span_id::{Bits, Fields, Level};
-use span_layers::{Filters, Kind, Layer, Layers, Note, Tellers};
+use span_layers::{Filters, Kind, Note, Tellers};
 use std::alloc::Global;
 use std::process::Abort;
 use std::sync::ArcStr;
-
-/// A layer of this plan, whose hooks answer as `admits` and `text` do.
-pub(crate) fn layer(rt: &impl Abort, alloc: Global, plan: &Plan) -> Layer {
-    let watch = Watch::new(alloc, Noting::Nothing, Refused::None).expect(rt, "memory");
-    let hooks = hooks(rt, alloc, &watch);
-    layer_with(alloc, plan, hooks).expect(rt, "memory")
-}
-
-/// Adds a layer where there is room for it.
-pub(crate) fn add_layer<A: Drop, F: Drop>(
-    rt: &impl Abort,
-    layers: &mut Layers<A, F>,
-    layer: Layer<A, F>,
-) {
-    holds(rt, layers.add(layer).is_ok(), "there is room for a layer");
-}
 
 /// The layers that admit.
 pub(crate) fn admission(

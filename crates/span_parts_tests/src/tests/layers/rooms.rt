@@ -1,16 +1,13 @@
 //! How much longer than its text a buffer is: a few bytes, wherever an escape stands, and a short text with many
 //! escapes doesn't make it grow.
 
-use crate::tests::compare::{holds, same};
+use crate::tests::compare::same;
 use crate::tests::layers::fixtures::fields;
 use span_id::{Fields, Level};
 use span_layers::{Form, Kind, Note, text};
 use std::alloc::Global;
 use std::process::Abort;
 use std::sync::ArcStr;
-
-/// How many bytes longer the buffer is at most where nothing is escaped and no text is long.
-pub(crate) const MOST_SPARE: usize = 67;
 
 // How many bytes longer it is in the compact form, and in the JSON form of the events below.
 const COMPACT_SPARE: usize = 15;
@@ -22,20 +19,10 @@ const LONG_SPARE: usize = 48;
 
 const LONG: usize = 64;
 
-/// Whether a text's buffer is at most so many bytes longer than the text; `of` tells the case.
-pub(crate) fn has_no_more_room(rt: &impl Abort, text: &Vec<u8>, most: usize, of: &str) {
-    holds(rt, spare_of(text) <= most, of);
-}
-
-// How many bytes longer the buffer is.
-fn spare_of(text: &Vec<u8>) -> usize {
-    text.capacity().saturating_sub(text.len())
-}
-
-// How many bytes longer the buffer of a note's text is.
+// How many bytes longer than a note's text its buffer is.
 fn spare(rt: &impl Abort, alloc: Global, form: Form, note: &Note) -> usize {
     let text = text(alloc, form, note).expect(rt, "memory");
-    spare_of(&text)
+    text.capacity().saturating_sub(text.len())
 }
 
 // An event with this message and no fields.
@@ -106,57 +93,43 @@ fn an_escape_at_each_place(rt: HostRuntime) {
     }
 }
 
-// How many escapes a message has, and how many bytes longer its buffer is: the escapes of each whole 32 bytes have room,
-// and 15 others.
-static ESCAPES: [(usize, usize); 6] = [(32, 15), (64, 15), (96, 15), (33, 14), (47, 0), (111, 0)];
+// A form, a part of a message and how often it stands there, and how many bytes longer the text's buffer is.
+type Repeated = (Form, &'static str, usize, usize);
 
-// A message of this byte alone.
-fn leaves_compact_room(
-    rt: &impl Abort,
-    alloc: Global,
-    byte: &str,
-    (escapes, want): (usize, usize),
-) {
-    let message = byte.repeat(alloc, escapes).expect(rt, "memory");
-    let note = event(rt, alloc, message.as_str());
-    let got = spare(rt, alloc, Form::Compact, &note);
-    same(rt, got, want, escapes);
-}
-
-#[test]
-fn many_lines_in_the_compact_form(rt: HostRuntime) {
-    for escapes in &ESCAPES {
-        for byte in ["\n", "\r", "\\"] {
-            leaves_compact_room(&rt, rt.alloc(), byte, *escapes);
-        }
-    }
-}
-
-// Messages and the capacity that their JSON's buffer has, which didn't grow: 120 bytes, one for the path, and theirs.
-static MESSAGES: [(&str, usize); 5] = [
-    ("", 121),
-    // 40 bytes with 20 quotes.
-    (r#"a"b"c"d"e"f"g"h"i"j"k"l"m"n"o"p"q"r"s"t""#, 161),
-    // JSON with 16 quotes.
+static REPEATED: [Repeated; 13] = [
+    // In the compact form the escapes of each whole 32 bytes have room, and 15 others.
+    (Form::Compact, "\n", 32, 15),
+    (Form::Compact, "\n", 64, 15),
+    (Form::Compact, "\r", 96, 15),
+    (Form::Compact, "\\", 96, 15),
+    (Form::Compact, "\n", 33, 14),
+    (Form::Compact, "\\", 33, 14),
+    (Form::Compact, "\r", 47, 0),
+    (Form::Compact, "\n", 111, 0),
+    // The buffer of JSON has 120 bytes, one for the path, and those of the message, and doesn't grow.
+    (Form::Json, "", 1, 36),
+    (Form::Json, "a\"b\"", 10, 16),
     (
+        Form::Json,
         r#"got {"id":7,"name":"x","kind":"user","t":"a","ok":true}"#,
-        176,
+        1,
+        20,
     ),
-    ("\u{1}\u{2}\u{3}\u{4}\u{5}", 126),
-    (r"C:\Users\me\AppData\Local\Temp\x", 153),
+    (Form::Json, "\u{1}", 5, 11),
+    (Form::Json, r"C:\Users\me\AppData\Local\Temp\x", 1, 30),
 ];
 
-// The capacity of the JSON text of a note.
-fn capacity(rt: &impl Abort, alloc: Global, note: &Note) -> usize {
-    let text = text(alloc, Form::Json, note).expect(rt, "memory");
-    text.capacity()
+fn is_repeated(rt: &impl Abort, alloc: Global, case: &Repeated) {
+    let (form, part, times, want) = *case;
+    let message = part.repeat(alloc, times).expect(rt, "memory");
+    let note = event(rt, alloc, message.as_str());
+    same(rt, spare(rt, alloc, form, &note), want, message.len());
 }
 
 #[test]
-fn short_messages_with_many_escapes_in_json(rt: HostRuntime) {
-    for (message, want) in &MESSAGES {
-        let note = event(&rt, rt.alloc(), message);
-        same(&rt, capacity(&rt, rt.alloc(), &note), *want, message);
+fn many_escapes(rt: HostRuntime) {
+    for case in &REPEATED {
+        is_repeated(&rt, rt.alloc(), case);
     }
 }
 
@@ -166,7 +139,7 @@ fn quoted_fields_in_json(rt: HostRuntime) {
     let alloc = rt.alloc();
     let mut note = event(&rt, alloc, "done");
     note.fields = fields(&rt, alloc, &[("k", "\"value\""); 8]);
-    same(&rt, capacity(&rt, alloc, &note), 253, "an event");
+    same(&rt, spare(&rt, alloc, Form::Json, &note), 21, "an event");
     note.kind = Kind::OnNew;
-    same(&rt, capacity(&rt, alloc, &note), 249, "a span");
+    same(&rt, spare(&rt, alloc, Form::Json, &note), 51, "a span");
 }

@@ -1,8 +1,7 @@
 //! Texts of notes, in both forms.
 
-use crate::tests::compare::{holds, same};
+use crate::tests::compare::same;
 use crate::tests::layers::fixtures::fields;
-use crate::tests::layers::rooms::{MOST_SPARE, has_no_more_room};
 use span_id::Level;
 use span_layers::{Form, Kind, Note, text, text_onto};
 use std::alloc::Global;
@@ -23,46 +22,28 @@ struct Case<'a> {
 }
 
 fn note(rt: &impl Abort, alloc: Global, case: &Case<'_>) -> Note {
+    let message = ArcStr::from_str(alloc, case.message).expect(rt, "memory");
     Note {
         layer: 0,
         kind: case.kind,
         worker: 0,
         id: case.id,
-        path: arc(rt, alloc, case.path),
+        path: ArcStr::from_str(alloc, case.path).expect(rt, "memory"),
         fields: fields(rt, alloc, case.fields),
-        tail: tail(rt, alloc, case.level, case.message),
+        tail: case.level.map(|level| (level, message)),
     }
-}
-
-fn arc(rt: &impl Abort, alloc: Global, text: &str) -> ArcStr {
-    ArcStr::from_str(alloc, text).expect(rt, "memory")
-}
-
-fn tail(
-    rt: &impl Abort,
-    alloc: Global,
-    level: Option<Level>,
-    message: &str,
-) -> Option<(Level, ArcStr)> {
-    match level {
-        Some(level) => Some((level, arc(rt, alloc, message))),
-        None => None,
-    }
-}
-
-fn case_is_written(rt: &impl Abort, alloc: Global, case: &Case<'_>) {
-    let note = note(rt, alloc, case);
-    is_written(rt, alloc, &note, case.compact, case.json);
 }
 
 // Whether the note is written so in either form.
-fn is_written(rt: &impl Abort, alloc: Global, note: &Note, compact: &str, json: &str) {
-    for (form, want) in [(Form::Compact, compact), (Form::Json, json)] {
-        let text = text(alloc, form, note).expect(rt, "memory");
+fn is_written(rt: &impl Abort, alloc: Global, case: &Case<'_>) {
+    let note = note(rt, alloc, case);
+    for (form, want) in [(Form::Compact, case.compact), (Form::Json, case.json)] {
+        let text = text(alloc, form, &note).expect(rt, "memory");
         same(rt, text.as_slice(), want.as_bytes(), want);
-        // (Where much is escaped, the buffer was doubled.)
-        has_no_more_room(rt, &text, MOST_SPARE.saturating_add(text.len()), want);
-        is_appended(rt, alloc, form, note, want);
+        let most = text.len().saturating_mul(2).saturating_add(67);
+        let is_tight = text.capacity() <= most;
+        same(rt, is_tight, true, want);
+        is_appended(rt, alloc, form, &note, want);
     }
 }
 
@@ -70,11 +51,8 @@ fn is_written(rt: &impl Abort, alloc: Global, note: &Note, compact: &str, json: 
 fn is_appended(rt: &impl Abort, alloc: Global, form: Form, note: &Note, want: &str) {
     let mut out = Vec::from_slice(alloc, b"held ").expect(rt, "memory");
     text_onto(form, note, &mut out).expect(rt, "memory");
-    let mut whole = Vec::from_slice(alloc, b"held ").expect(rt, "memory");
-    whole
-        .extend_from_slice(want.as_bytes())
-        .expect(rt, "memory");
-    same(rt, out.as_slice(), whole.as_slice(), want);
+    same(rt, out.as_slice().starts_with(b"held "), true, want);
+    same(rt, out.as_slice().get(5..), Some(want.as_bytes()), want);
 }
 
 static CASES: [Case<'static>; 11] = [
@@ -203,57 +181,6 @@ static CASES: [Case<'static>; 11] = [
 #[test]
 fn each_kind_in_both_forms(rt: HostRuntime) {
     for case in &CASES {
-        case_is_written(&rt, rt.alloc(), case);
+        is_written(&rt, rt.alloc(), case);
     }
-}
-
-// The texts one behind the other, each as often as its number says.
-fn joined(rt: &impl Abort, alloc: Global, parts: &[(&str, usize)]) -> String {
-    let mut made = String::new(alloc);
-    for (text, times) in parts {
-        let part = text.repeat(alloc, *times).expect(rt, "memory");
-        made.push_str(part.as_str()).expect(rt, "memory");
-    }
-    made
-}
-
-// A note of 1000 lines and 300 fields.
-fn long_note(rt: &impl Abort, alloc: Global) -> Note {
-    let message = "line\n".repeat(alloc, 1000).expect(rt, "memory");
-    let pairs = [("key", "value"); 300];
-    Note {
-        layer: 0,
-        kind: Kind::OnEvent,
-        worker: 0,
-        id: 0,
-        path: arc(rt, alloc, "-"),
-        fields: fields(rt, alloc, &pairs),
-        tail: Some((
-            Level::Warn,
-            ArcStr::from_string(message).expect(rt, "memory"),
-        )),
-    }
-}
-
-static LONG_COMPACT: [(&str, usize); 3] = [
-    ("event 0 w0 - WARN ", 1),
-    ("line\\n", 1000),
-    (" key=value", 300),
-];
-
-static LONG_JSON: [(&str, usize); 5] = [
-    (r#"{"fields":[["key","value"]"#, 1),
-    (r#",["key","value"]"#, 299),
-    (r#"],"id":0,"kind":"event","level":"WARN","message":""#, 1),
-    ("line\\n", 1000),
-    (r#"","path":"-","worker":0}"#, 1),
-];
-
-#[test]
-fn long_texts_and_many_fields(rt: HostRuntime) {
-    let alloc = rt.alloc();
-    let note = long_note(&rt, alloc);
-    let compact = joined(&rt, alloc, &LONG_COMPACT);
-    let json = joined(&rt, alloc, &LONG_JSON);
-    is_written(&rt, alloc, &note, compact.as_str(), json.as_str());
 }

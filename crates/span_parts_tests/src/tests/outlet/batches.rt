@@ -2,12 +2,12 @@
 ghost use Rattle.std.specs.Prelude.{◌≡◌, ◌+◌, ◌-◌, ◌^◌, ◌<◌, ◌≤◌, [], length};
 
 use crate::lines::{push_line, shown};
-use crate::plans::{EVERYTHING, Plan, Wanted, plain_layers};
+use crate::plans::Wanted;
 use crate::tests::compare::{id, same};
 use crate::tests::hooks::add_plan;
 use crate::watch::Refused;
 use span_id::{Fields, Level, Limits};
-use span_layers::{ByForm, Form, Kind, Layers, Note, Tellers};
+use span_layers::{Form, Kind, Layers, Note, Tellers};
 use span_outlet::{Batch, Call, Drain, Outlet, Reply, Ring, Tap};
 use std::alloc::Global;
 use std::process::Abort;
@@ -36,15 +36,6 @@ pub(crate) fn tellers(rt: &impl Abort, alloc: Global, forms: &[Form]) -> Tellers
     layers.split().1
 }
 
-// The layers that have no closures.
-static PLAIN: [Plan<'static>; 2] = [(Form::Json, Wanted::All, "", Level::Trace), EVERYTHING];
-
-/// Tellers of two layers that write in `FORMS` and have no closures.
-pub(crate) fn plain_tellers(rt: &impl Abort, alloc: Global) -> Tellers<ByForm> {
-    let layers = plain_layers(alloc, &PLAIN).expect(rt, "layers");
-    layers.split().1
-}
-
 /// Both ends of a ring of so many places.
 pub(crate) fn pair(rt: &impl Abort, alloc: Global, places: u32) -> (Ring, Tap)
     ensures new { result.0.sent ≡ [] }
@@ -60,8 +51,7 @@ pub(crate) fn pair(rt: &impl Abort, alloc: Global, places: u32) -> (Ring, Tap)
 
 /// A ring of so many places, and a drain of it that writes in these forms.
 pub(crate) fn opened(rt: &impl Abort, alloc: Global, places: u32, forms: &[Form]) -> (Ring, Drain)
-    ensures new { result.0.sent ≡ [] }
-    ensures pair { result.0.name ≡ result.1.name }
+    ensures { result.0.sent ≡ [] }
 {
     let (ring, tap) = pair(rt, alloc, places);
     (ring, Drain::new(alloc, tap, tellers(rt, alloc, forms)))

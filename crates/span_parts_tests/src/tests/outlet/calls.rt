@@ -39,9 +39,6 @@ static CASES: [Case; 7] = [
     (Kind::OnExit, &[0, 1, 2, 3, 0], 12341),
 ];
 
-// The digits of all cases.
-const ALL: u64 = 1_234_213_331_242_112_341;
-
 // How many notes of them are missed.
 const MISSED: u64 = 3;
 
@@ -73,7 +70,8 @@ fn an_outlet_that_has_the_last_lines_asks_once(rt: HostRuntime) {
     let calls = no_calls(&rt, alloc, Refused::At(Kind::OnNew));
     let mut latest = Latest::new(alloc, four_tellers(&rt, alloc, &calls));
     sends_all(&rt, alloc, &calls, &mut latest, true);
-    same(&rt, latest.refused(), MISSED, "missed notes");
+    let counts = (latest.sent(), latest.refused());
+    same(&rt, counts, (7, MISSED), "batches and missed notes");
 }
 
 // A ring of the batches of all cases, and its other end.
@@ -85,33 +83,43 @@ fn sent(rt: &impl Abort, alloc: Global, calls: &Watch) -> (Ring, Tap)
     (ring, tap)
 }
 
+// A step of the drain for each case but the last two, and their batches at once.
+fn takes_all(rt: &impl Abort, calls: &Watch, ring: &mut Ring, drain: &mut Drain)
+    requires { ring.old.name ≡ drain.old.name }
+{
+    for (_, _, digits) in &CASES[..5] {
+        holds(rt, drain.step().is_some(), "a batch");
+        same(rt, calls.taken(), *digits, *digits);
+    }
+    drain.last(ring);
+    same(rt, calls.taken(), 2_112_341, "the last batches");
+    same(rt, drain.refused(), MISSED, "missed notes");
+}
+
 #[test]
 fn a_drain_asks_once(rt: HostRuntime) {
     let alloc = rt.alloc();
     let calls = no_calls(&rt, alloc, Refused::At(Kind::OnNew));
-    let (_ring, tap) = sent(&rt, alloc, &calls);
-    let mut drain = Drain::new(alloc, tap, four_tellers(&rt, alloc, &calls));
-    for (_, _, digits) in &CASES {
-        holds(&rt, drain.step().is_some(), "a batch");
-        same(&rt, calls.taken(), *digits, *digits);
-    }
-    same(&rt, drain.refused(), MISSED, "missed notes");
-}
-
-#[test]
-fn a_drain_asks_once_for_what_is_left(rt: HostRuntime) {
-    let alloc = rt.alloc();
-    let calls = no_calls(&rt, alloc, Refused::At(Kind::OnNew));
     let (mut ring, tap) = sent(&rt, alloc, &calls);
     let mut drain = Drain::new(alloc, tap, four_tellers(&rt, alloc, &calls));
-    drain.last(&mut ring);
-    same(&rt, calls.taken(), ALL, "all batches");
-    same(&rt, drain.refused(), MISSED, "missed notes");
+    takes_all(&rt, &calls, &mut ring, &mut drain);
+    same(&rt, drain.into_lines().len(), 17, "lines");
 }
 
 // The digits that are written down while the reader is filled, and how many lines wait then. It takes batches until
 // one has a line.
 static FILLED: [(u64, usize); 5] = [(123, 3), (4213, 4), (331, 3), (24, 2), (2_112_341, 5)];
+
+fn reads_all(rt: &impl Abort, calls: &Watch, reader: &mut LineReader) {
+    for (digits, lines) in &FILLED {
+        holds(rt, reader.fill(), "a line waits");
+        same(rt, calls.taken(), *digits, *digits);
+        gives(rt, reader, *lines);
+        same(rt, calls.taken(), 0, *digits);
+    }
+    holds(rt, !reader.fill(), "no line waits");
+    same(rt, reader.refused(), MISSED, "missed notes");
+}
 
 #[test]
 fn a_reader_asks_once(rt: HostRuntime) {
@@ -119,14 +127,7 @@ fn a_reader_asks_once(rt: HostRuntime) {
     let calls = no_calls(&rt, alloc, Refused::At(Kind::OnNew));
     let (_ring, tap) = sent(&rt, alloc, &calls);
     let mut reader = LineReader::new(alloc, tap, four_tellers(&rt, alloc, &calls));
-    for (digits, lines) in &FILLED {
-        holds(&rt, reader.fill(), "a line waits");
-        same(&rt, calls.taken(), *digits, *digits);
-        gives(&rt, &mut reader, *lines);
-        same(&rt, calls.taken(), 0, *digits);
-    }
-    holds(&rt, !reader.fill(), "no line waits");
-    same(&rt, reader.refused(), MISSED, "missed notes");
+    reads_all(&rt, &calls, &mut reader);
 }
 
 // So many lines wait, and all are given out.

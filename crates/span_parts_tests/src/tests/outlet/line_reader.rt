@@ -3,8 +3,8 @@ ghost use Rattle.std.specs.Prelude.{◌≡◌, []};
 
 use crate::lines::push_line;
 use crate::tests::compare::{crosses_threads, same};
-use crate::tests::outlet::batches::{FORMS, THREE_LINES, pair, plain_tellers, sends, tellers};
-use span_layers::{ByForm, Form, Formatters, Kind, Say};
+use crate::tests::outlet::batches::{FORMS, THREE_LINES, pair, sends, tellers};
+use span_layers::{Form, Kind, Say};
 use span_outlet::{LineReader, Ring};
 use std::alloc::Global;
 use std::process::Abort;
@@ -19,33 +19,26 @@ fn opened(rt: &impl Abort, alloc: Global, places: u32, forms: &[Form]) -> (Ring,
     (ring, reader)
 }
 
-// What is read until no line waits, but at most so many lines.
-fn read<V: Say>(rt: &impl Abort, alloc: Global, reader: &mut LineReader<V>, most: usize) -> String {
+// The reader gives out these lines, of which there are less than nine.
+fn reads<V: Say>(rt: &impl Abort, alloc: Global, reader: &mut LineReader<V>, want: &str) {
     let mut all = String::new(alloc);
-    for _ in 0..most {
+    for _ in 0..9 {
         if !reader.fill() {
             break;
         }
         let line = reader.next().expect(rt, "the line that waits is lost");
         push_line(&mut all, &line).expect(rt, "memory");
     }
-    all
+    same(rt, all.as_str(), want, "what is read");
 }
 
-// The reader gives out these lines, of which there are less than nine.
-fn reads<V: Say>(rt: &impl Abort, alloc: Global, reader: &mut LineReader<V>, want: &str) {
-    let lines = read(rt, alloc, reader, 9);
-    same(rt, lines.as_str(), want, "what is read");
-}
-
-// How many batches were taken, and how many notes missed.
-fn counts<V>(reader: &LineReader<V>) -> (u64, u64) {
-    (reader.taken(), reader.refused())
-}
-
-// The place of the line that waits.
-fn peeked<V>(reader: &LineReader<V>) -> Option<u32> {
-    reader.peek().map(|line| line.place)
+// The place of the line that waits, and the kind and the layer of its note.
+fn waiting<V>(reader: &LineReader<V>) -> (Option<u32>, Option<(Kind, u32)>) {
+    let place = reader.peek().map(|line| line.place);
+    (
+        place,
+        reader.peek_note().map(|note| (note.kind, note.layer)),
+    )
 }
 
 // The batch and the place of the line that is given out.
@@ -53,43 +46,36 @@ fn given<V>(reader: &mut LineReader<V>) -> Option<(u64, u32)> {
     reader.next().map(|line| (line.batch, line.place))
 }
 
-// No line waits, so many batches were taken, and so many notes missed.
-fn stands_at<V: Say>(rt: &impl Abort, reader: &mut LineReader<V>, taken: u64, refused: u64) {
-    let line = (reader.fill(), peeked(reader), given(reader));
-    same(rt, line, (false, None, None), "no line waits");
-    same(rt, counts(reader), (taken, refused), "taken and refused");
-}
-
 // What is done with a ring and its reader, and what is wanted of it.
 #[derive(Clone, Copy)]
 enum Act<'a> {
     // A call is sent whose layers are told; whether there is room for its batch.
     Send(Kind, &'a [u32], bool),
+    // Whether a line waits once the reader is filled.
+    Fill(bool),
     // The lines that are read.
     Read(&'a str),
-    // The reader stands at so many batches that were taken, and so many notes missed.
-    StandAt(u64, u64),
-    // The line at this place of the first batch waits and is given out.
-    Wait(u32),
-    // A line waits; so many batches were taken, and so many notes missed.
-    Fill(u64, u64),
-    // No line is known to wait, and so many batches were taken.
-    Peek(u64),
-    // The note of the line that waits is of this kind, and told to this layer.
-    Note(Kind, u32),
+    // The place of the line that waits, and the kind and the layer of its note.
+    Wait(Option<u32>, Option<(Kind, u32)>),
+    // The batch and the place of the line that is given out.
+    Give(Option<(u64, u32)>),
     // So many lines that wait are given up.
     Skip(usize),
+    // How many batches were taken, and how many notes missed.
+    Count(u64, u64),
 }
 
 fn looks<V: Say>(rt: &impl Abort, alloc: Global, reader: &mut LineReader<V>, act: &Act<'_>) {
     match act {
+        Act::Fill(want) => same(rt, reader.fill(), *want, "whether a line waits"),
         Act::Read(want) => reads(rt, alloc, reader, want),
-        Act::StandAt(taken, refused) => stands_at(rt, reader, *taken, *refused),
-        Act::Wait(place) => waits(rt, reader, *place),
-        Act::Fill(taken, refused) => fills_to(rt, reader, *taken, *refused),
-        Act::Peek(taken) => has_none(rt, reader, *taken),
-        Act::Note(kind, layer) => has_note(rt, reader, (*kind, *layer)),
-        Act::Skip(lines) => skips(rt, reader, *lines),
+        Act::Wait(place, note) => same(rt, waiting(reader), (*place, *note), "the line that waits"),
+        Act::Give(want) => same(rt, given(reader), *want, "the line that is given out"),
+        Act::Skip(lines) => same(rt, reader.skip(), *lines, "lines given up"),
+        Act::Count(taken, refused) => {
+            let found = (reader.taken(), reader.refused());
+            same(rt, found, (*taken, *refused), "taken and refused");
+        }
         Act::Send(..) => {}
     }
 }
@@ -122,35 +108,24 @@ fn plays_new(rt: &impl Abort, alloc: Global, play: &Play) {
 // The places of a ring, the forms in which a reader of it writes, and what is done in this order.
 type Play = (u32, &'static [Form], &'static [Act<'static>]);
 
-static PLAYS: [Play; 5] = [
+static PLAYS: [Play; 4] = [
     // Lines of three batches.
     (
         8,
         &FORMS,
         &[
-            Act::StandAt(0, 0),
+            Act::Fill(false),
+            Act::Count(0, 0),
             Act::Send(Kind::OnEnter, &[0, 1], true),
             Act::Send(Kind::OnEnter, &[], true),
             Act::Send(Kind::OnExit, &[1, 0], true),
             Act::Read(THREE_LINES),
-            Act::StandAt(3, 0),
+            Act::Wait(None, None),
+            Act::Give(None),
+            Act::Count(3, 0),
         ],
     ),
-    // A line that waits is looked at and given out.
-    (
-        8,
-        &[Form::Compact],
-        &[
-            Act::Send(Kind::OnEnter, &[0, 0], true),
-            Act::Send(Kind::OnExit, &[0], true),
-            Act::Wait(0),
-            Act::Wait(1),
-            Act::Peek(1),
-            Act::Read("1 0 0 exit 1 w0 a\n"),
-            Act::StandAt(2, 0),
-        ],
-    ),
-    // Notes are looked at, and lines given up.
+    // Lines and their notes are looked at and given out, however often the reader is filled, and others given up.
     (
         8,
         &[Form::Compact, Form::Compact],
@@ -159,16 +134,22 @@ static PLAYS: [Play; 5] = [
             Act::Send(Kind::OnEnter, &[1, 0, 1], true),
             Act::Send(Kind::OnClose, &[0], true),
             Act::Send(Kind::OnExit, &[0, 1], true),
-            Act::Note(Kind::OnEnter, 1),
-            Act::Wait(0),
-            Act::Note(Kind::OnEnter, 0),
+            Act::Fill(true),
+            Act::Fill(true),
+            Act::Wait(Some(0), Some((Kind::OnEnter, 1))),
+            Act::Give(Some((0, 0))),
+            Act::Fill(true),
+            Act::Wait(Some(1), Some((Kind::OnEnter, 0))),
+            Act::Count(1, 0),
             Act::Skip(2),
-            Act::Peek(1),
-            Act::Note(Kind::OnClose, 0),
+            Act::Wait(None, None),
+            Act::Count(1, 0),
+            Act::Fill(true),
+            Act::Wait(Some(0), Some((Kind::OnClose, 0))),
             Act::Skip(1),
             Act::Skip(0),
             Act::Read("2 0 0 exit 1 w0 a\n2 1 1 exit 1 w0 a\n"),
-            Act::StandAt(3, 0),
+            Act::Count(3, 0),
         ],
     ),
     // Batches' texts are refused memory.
@@ -179,9 +160,10 @@ static PLAYS: [Play; 5] = [
             Act::Send(Kind::OnNew, &[0], true),
             Act::Send(Kind::OnNew, &[0, 0], true),
             Act::Send(Kind::OnClose, &[0, 7], true),
-            Act::Fill(3, 4),
+            Act::Fill(true),
+            Act::Count(3, 4),
             Act::Read("2 0 0 close 1 w0 a\n"),
-            Act::StandAt(3, 4),
+            Act::Count(3, 4),
         ],
     ),
     // A place is used again.
@@ -194,7 +176,7 @@ static PLAYS: [Play; 5] = [
             Act::Read("0 0 0 enter 1 w0 a\n"),
             Act::Send(Kind::OnExit, &[0], true),
             Act::Read("1 0 0 exit 1 w0 a\n"),
-            Act::StandAt(2, 0),
+            Act::Count(2, 0),
         ],
     ),
 ];
@@ -204,53 +186,6 @@ fn rings_and_their_readers(rt: HostRuntime) {
     for play in &PLAYS {
         plays_new(&rt, rt.alloc(), play);
     }
-}
-
-// The line at this place of the first batch waits, however often the reader is filled, and then it's given out.
-fn waits<V: Say>(rt: &impl Abort, reader: &mut LineReader<V>, place: u32) {
-    let filled = [reader.fill(), reader.fill()];
-    same(rt, filled, [true, true], "a line waits");
-    let stands = (counts(reader).0, peeked(reader), given(reader));
-    same(rt, stands, (1, Some(place), Some((0, place))), place);
-}
-
-// No line is known to wait, and so many batches were taken.
-fn has_none<V>(rt: &impl Abort, reader: &LineReader<V>, taken: u64) {
-    let stands = (peeked(reader), noted(reader), counts(reader).0);
-    same(
-        rt,
-        stands,
-        (None, None, taken),
-        "the line that waits, and taken",
-    );
-}
-
-// The kind and the layer of the note whose line waits.
-fn noted<V>(reader: &LineReader<V>) -> Option<(Kind, u32)> {
-    reader.peek_note().map(|note| (note.kind, note.layer))
-}
-
-// The note of the line that waits once the reader was filled.
-fn has_note<V: Say>(rt: &impl Abort, reader: &mut LineReader<V>, want: (Kind, u32)) {
-    let stands = (reader.fill(), noted(reader));
-    same(
-        rt,
-        stands,
-        (true, Some(want)),
-        "the note of the line that waits",
-    );
-}
-
-// So many lines are given up, and none waits then.
-fn skips<V>(rt: &impl Abort, reader: &mut LineReader<V>, want: usize) {
-    let stands = (reader.skip(), peeked(reader), noted(reader));
-    same(rt, stands, (want, None, None), "lines given up");
-}
-
-// A line waits once the reader was filled, and then so many batches were taken, and so many notes missed.
-fn fills_to<V: Say>(rt: &impl Abort, reader: &mut LineReader<V>, taken: u64, refused: u64) {
-    let stands = (reader.fill(), counts(reader));
-    same(rt, stands, (true, (taken, refused)), "taken and refused");
 }
 
 // Whether a line waits once the reader was filled beside the ring.
@@ -295,33 +230,6 @@ fn both_ends_in_one_thread(rt: HostRuntime) {
     is_behind(&rt, &mut reader, &mut ring, 0);
     gives(&rt, &mut reader, 1);
     fills_beside(&rt, &mut reader, &mut ring, false);
-    same(&rt, reader.looks(), 3, "looks");
-    stands_at(&rt, &mut reader, 2, 1);
-}
-
-type PlainReader = LineReader<Formatters<ByForm>>;
-
-// A ring of so many places, and a reader of it whose layers have no closures.
-fn plain(rt: &impl Abort, alloc: Global, places: u32) -> (Ring, PlainReader)
-    ensures new { result.0.sent ≡ [] }
-{
-    let (ring, tap) = pair(rt, alloc, places);
-    (ring, LineReader::new(alloc, tap, plain_tellers(rt, alloc)))
-}
-
-const PLAIN_LINES: &str = r#"0 0 1 new 1 w0 a
-0 1 0 {"fields":[],"id":1,"kind":"new","path":"a","worker":0}
-"#;
-
-static PLAIN_ACTS: [Act<'static>; 3] = [
-    Act::Send(Kind::OnNew, &[1, 0], true),
-    Act::Read(PLAIN_LINES),
-    Act::StandAt(1, 0),
-];
-
-#[test]
-fn lines_of_layers_without_closures(rt: HostRuntime) {
-    let (mut ring, reader) = plain(&rt, rt.alloc(), 2);
-    let mut reader: PlainReader = crosses_threads(reader);
-    plays(&rt, rt.alloc(), &mut ring, &mut reader, &PLAIN_ACTS);
+    let counts = (reader.looks(), reader.taken(), reader.refused());
+    same(&rt, counts, (3, 2, 1), "looks, taken and refused");
 }

@@ -4,13 +4,14 @@ use span_id::{Fault, Id, Level};
 use span_outlet::Line;
 use span_registry::{ParentOf, Step};
 use std::alloc::{AllocError, Global};
+use std::fmt::Debug;
 use std::process::Abort;
 
 /// Keys and values.
 pub(crate) type Fields<'a> = &'a [(&'a str, &'a str)];
 
-/// In the place of the number of an id, in a call on a registry that is lent a handle, takes one back or leaves a span:
-/// the handle that came last. No id has this number.
+/// In the place of the number of an id, in a call on a registry that is lent a handle or takes one back: the handle that
+/// came last. No id has this number.
 pub(crate) const NEWEST: u64 = u64::MAX;
 
 /// A call; spans stand under the numbers of their ids.
@@ -36,7 +37,7 @@ pub(crate) enum Act<'a> {
     Ask(u64),
     /// What was counted of the worker.
     Count,
-    /// A step of the drain, where there is one.
+    /// A step of the drain.
     Step,
 }
 
@@ -65,14 +66,6 @@ pub(crate) fn parent_of(act: &Act) -> ParentOf {
     }
 }
 
-/// The id that a look is for.
-pub(crate) fn looked_for(act: &Act) -> Option<Id> {
-    match act {
-        Act::Find(number) | Act::Ask(number) => Id::from_u64(*number),
-        _ => None,
-    }
-}
-
 /// What a call answers.
 #[derive(Clone, Copy)]
 pub(crate) enum Answer {
@@ -87,21 +80,12 @@ pub(crate) enum Answer {
     Counted(u64, u64),
     Stepped(Option<Step>),
     Refused(Fault),
-    NoWorker,
 }
 
 /// What a call answers that is accepted with no value, or refused.
 pub(crate) fn accepted(answer: Result<(), Fault>, done: Answer) -> Answer {
     match answer {
         Ok(()) => done,
-        Err(fault) => Answer::Refused(fault),
-    }
-}
-
-/// What a call answers by which a worker enters a span.
-pub(crate) fn entered(answer: Result<bool, Fault>) -> Answer {
-    match answer {
-        Ok(first) => Answer::Entered(first),
         Err(fault) => Answer::Refused(fault),
     }
 }
@@ -126,130 +110,45 @@ fn word(answer: &Answer) -> &'static str {
         Answer::Recorded => "= recorded\n",
         Answer::Told => "= told\n",
         Answer::Stepped(None) => "= no batch\n",
-        Answer::NoWorker => "! there is no such worker\n",
         Answer::Made(_) | Answer::Counted(..) | Answer::Stepped(Some(_)) | Answer::Refused(_) => "",
     }
 }
 
-// `= ` and the answer, or `! ` and the refusal, on a line.
-fn answer_text(alloc: Global, answer: &Answer) -> Result<String, AllocError> {
+// `= ` and the answer, or `! ` and the refusal, as the next line.
+fn add_answer(text: &mut String, answer: &Answer) -> Result<(), AllocError> {
     match answer {
-        Answer::Made(id) => format!(in alloc; "= {id}\n"),
-        Answer::Refused(fault) => format!(in alloc; "! {fault}\n"),
-        Answer::Counted(accepted, out) => format!(in alloc; "= accepted {accepted} out {out}\n"),
+        Answer::Made(id) => write!(text, "= {id}\n"),
+        Answer::Refused(fault) => write!(text, "! {fault}\n"),
+        Answer::Counted(accepted, out) => write!(text, "= accepted {accepted} out {out}\n"),
         Answer::Stepped(Some(Step { told, refused })) => {
-            format!(in alloc; "= told {told} refused {refused}\n")
+            write!(text, "= told {told} refused {refused}\n")
         }
-        _ => String::from_str(alloc, word(answer)),
+        _ => text.push_str(word(answer)),
     }
 }
 
-/// What `find` answers of an open span.
-#[derive(Clone, Copy)]
-pub(crate) struct Sight<'a> {
-    pub(crate) name: &'a str,
-    /// The number of the parent's id; 0 for none.
-    pub(crate) parent: u64,
-    pub(crate) handles: u32,
-    pub(crate) entries: u32,
-    pub(crate) count: u32,
+/// The answer of the next call.
+pub(crate) fn push_answer(rt: &impl Abort, text: &mut String, answer: &Answer) {
+    add_answer(text, answer).expect(rt, "memory");
 }
 
-// The sight of a span, on a line.
-fn sight_text(alloc: Global, sight: &Sight) -> Result<String, AllocError> {
-    let Sight {
-        name,
-        parent,
-        handles,
-        entries,
-        count,
-    } = sight;
-    format!(in alloc;
-        "= {name} parent {parent} handles {handles} entries {entries} count {count}\n"
-    )
-}
-
-// More of a text.
-fn push(rt: &impl Abort, text: &mut Vec<u8>, more: &[u8]) {
-    text.extend_from_slice(more).expect(rt, "memory");
-}
-
-/// What `find` answers of a span, as the next line.
-pub(crate) fn push_sight(
-    rt: &impl Abort,
-    alloc: Global,
-    text: &mut Vec<u8>,
-    sight: Option<&Sight>,
-) {
-    match sight {
-        None => push(rt, text, b"= none\n"),
-        Some(sight) => {
-            let line = sight_text(alloc, sight).expect(rt, "memory");
-            push(rt, text, line.as_bytes());
-        }
-    }
-}
-
-/// The answers to calls; the ids of the spans made so far, and what `find` answers of each after each call; and what was
-/// left of each worker and then of each handle.
-#[derive(Drop)]
-pub(crate) struct Transcript {
-    pub(crate) answers: Vec<u8>,
-    pub(crate) finds: Vec<u8>,
-    pub(crate) counts: Vec<u8>,
-    pub(crate) ids: Vec<Id>,
-}
-
-impl Transcript {
-    /// Nothing yet.
-    pub(crate) fn new(alloc: Global) -> Transcript {
-        Transcript {
-            answers: Vec::new(alloc),
-            finds: Vec::new(alloc),
-            counts: Vec::new(alloc),
-            ids: Vec::new(alloc),
-        }
-    }
-
-    /// The answer of the next call, which may have made a span.
-    pub(crate) fn answer(&mut self, rt: &impl Abort, alloc: Global, answer: &Answer) {
-        if let Answer::Made(id) = answer {
-            self.ids.push(*id).expect(rt, "memory");
-        }
-        let line = answer_text(alloc, answer).expect(rt, "memory");
-        push(rt, &mut self.answers, line.as_bytes());
-    }
-}
-
-// The text of a line after these words, as the next line.
-fn push_line(rt: &impl Abort, text: &mut Vec<u8>, words: &str, line: &Line) {
-    push(rt, text, words.as_bytes());
-    push(rt, text, line.text.as_slice());
-    push(rt, text, b"\n");
-}
-
-/// `L<layer> <text>`, on a line each.
-pub(crate) fn lines_text(rt: &impl Abort, alloc: Global, lines: &[Line]) -> Vec<u8> {
-    let mut text = Vec::new(alloc);
-    for line in lines {
-        let layer = format!(in alloc; "L{} ", line.layer).expect(rt, "memory");
-        push_line(rt, &mut text, layer.as_str(), line);
-    }
-    text
+/// What was found or asked for, as the next line.
+pub(crate) fn push_shown<T: Debug>(rt: &impl Abort, text: &mut String, shown: &T) {
+    write!(text, "{shown:?}\n").expect(rt, "memory");
 }
 
 /// The number of the batch, the place, the layer and the text of each line.
-pub(crate) fn numbered(rt: &impl Abort, alloc: Global, lines: &[Line]) -> Vec<u8> {
-    let mut text = Vec::new(alloc);
+pub(crate) fn numbered(rt: &impl Abort, alloc: Global, lines: &[Line]) -> String {
+    let mut text = String::new(alloc);
     for line in lines {
-        let Line {
-            batch,
-            place,
-            layer,
-            text: _,
-        } = line;
-        let numbers = format!(in alloc; "{batch} {place} {layer} ").expect(rt, "memory");
-        push_line(rt, &mut text, numbers.as_str(), line);
+        add_line(&mut text, line).expect(rt, "memory");
     }
     text
+}
+
+// The numbers and the text of a line, as the next line.
+fn add_line(text: &mut String, line: &Line) -> Result<(), AllocError> {
+    let (batch, place, layer) = (line.batch, line.place, line.layer);
+    let said = str::from_utf8(line.text.as_slice()).unwrap_or("no text");
+    write!(text, "{batch} {place} {layer} {said}\n")
 }

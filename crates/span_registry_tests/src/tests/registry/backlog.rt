@@ -1,22 +1,9 @@
 //! A ring of one place that is full: calls are refused, and made again after a step of the drain.
 use crate::tests::registry::acts::Act;
-use crate::tests::registry::ended::with_workers;
-use crate::tests::registry::endings::{Ending, ends_on_a_ring};
+use crate::tests::registry::endings::{Ending, ends};
 use crate::tests::registry::layers::{EVERYTHING, Plan};
 use span_id::{Level, Limits};
 use span_layers::{FmtSpan, Form};
-use std::alloc::Global;
-use std::process::Abort;
-use std::sync::Wait;
-
-// A registry with one worker over a ring of one place ends so after these calls and steps.
-fn ends<R: Wait + Abort>(rt: &R, alloc: Global, ending: &Ending) {
-    let limits = Limits {
-        ring: 1,
-        ..with_workers(1)
-    };
-    ends_on_a_ring(rt, alloc, limits, ending);
-}
 
 // An event without fields.
 const EVENT: Act = Act::Event(Level::Info, "m", &[]);
@@ -38,7 +25,6 @@ const FULL_RING: Ending = Ending {
         (0, Act::Close(1)),
     ],
     answers: "= 1\n! backlog\n! backlog\n= told 0 refused 0\n= no batch\n= closed\n",
-    counts: "units 0 accepted 2\n",
     numbers: "left 0 handles 0 entries 0 calls 2 made 1 closed 1 refused 0",
     lines: "",
 };
@@ -56,7 +42,7 @@ const EVERY_ANSWER: &str = "\
 ! backlog
 ! unknown
 ! bad name
-= a parent 0 handles 1 entries 1 count 2
+Ok(Some(Found { name: \"a\", parent: None, handles: 1, entries: 1, count: 2 }))
 = told 1 refused 0
 = open
 = told 1 refused 0
@@ -88,7 +74,6 @@ const EVERY_CALL_TOLD: Ending = Ending {
     plans: &[EVERYTHING],
     acts: EVERY_CALL,
     answers: EVERY_ANSWER,
-    counts: "units 0 accepted 4\n",
     numbers: "left 0 handles 0 entries 0 calls 4 made 1 closed 1 refused 0",
     lines: "0 0 0 new 1 w0 a\n1 0 0 enter 1 w0 a\n2 0 0 exit 1 w0 a\n3 0 0 close 1 w0 a\n",
 };
@@ -106,7 +91,7 @@ const EVERY_ANSWER_WITHOUT_NOTES: &str = "\
 ! backlog
 ! unknown
 ! bad name
-= a parent 0 handles 1 entries 1 count 2
+Ok(Some(Found { name: \"a\", parent: None, handles: 1, entries: 1, count: 2 }))
 = told 0 refused 0
 = open
 = told 0 refused 0
@@ -117,7 +102,6 @@ const EVERY_CALL_TOLD_TO_NONE: Ending = Ending {
     plans: &[],
     acts: EVERY_CALL,
     answers: EVERY_ANSWER_WITHOUT_NOTES,
-    counts: "units 0 accepted 4\n",
     numbers: "left 0 handles 0 entries 0 calls 4 made 1 closed 1 refused 0",
     lines: "",
 };
@@ -126,7 +110,6 @@ const NOT_WANTED_HERE: Ending = Ending {
     plans: &[ELSEWHERE],
     acts: &[(0, EVENT), (0, Act::New("a")), (0, EVENT)],
     answers: "= told\n= not wanted\n! backlog\n",
-    counts: "units 0 accepted 1\n",
     numbers: "left 0 handles 0 entries 0 calls 1 made 0 closed 0 refused 0",
     lines: "",
 };
@@ -151,7 +134,12 @@ static ENDINGS: [Ending<'static>; 5] = [
 
 #[test]
 fn calls_meet_a_full_ring(rt: HostRuntime) {
+    let limits = Limits {
+        workers: 1,
+        ring: 1,
+        ..Limits::default()
+    };
     for ending in &ENDINGS {
-        ends(&rt, rt.alloc(), ending);
+        ends(&rt, rt.alloc(), limits, ending);
     }
 }

@@ -1,5 +1,6 @@
 //! The shortest caller, as the page on calling shows it.
 ghost use Rattle.std.specs.Prelude.{◌≡◌, ◌<◌, ◌∷◌, [], ℕ, None, IfOk, vec_len, slice_index_or};
+ghost use Rattle.span_registry.specs.Blanks.{blanks_of};
 ghost use Rattle.span_registry.specs.Share.{IsWhole};
 ghost use Rattle.span_registry.specs.Worker.{IsNew};
 
@@ -7,7 +8,7 @@ use crate::tests::registry::layers::meta_of;
 use crate::tests::registry::same::same;
 use span_id::{Fault, Level, Limits, Meta};
 use span_layers::{Filters, Layers, Say, Tellers};
-use span_registry::{Blanks, Kept, ParentOf, Registry, Report, Setup, Share, Worker};
+use span_registry::{Blanks, Kept, ParentOf, RefusedClose, Registry, Report, Setup, Share, Worker};
 use std::alloc::Global;
 use std::marker::Brand;
 use std::sync::Wait;
@@ -41,15 +42,7 @@ fn run<H: Ledger, C: Ledger, S: Setup, V: Say, R: Wait>(
     requires sent { outlet.sent ≡ [] }
     requires setup { (filters.rules ≡ S.rules) × (outlet.forms ≡ S.forms) × (None ≡ S.ring) }
     requires workers { S.limits.workers ≡ 1 }
-    requires blanks { blanks ≡ record {
-      limits = S.limits;
-      handles = H.name;
-      handle_parts = H.parts;
-      calls = C.name;
-      call_parts = C.parts;
-      table = S.table;
-      history = S.history;
-    } }
+    requires blanks { blanks ≡ blanks_of S.limits H.name H.parts C.name C.parts S.table S.history }
 {
     let (registry, workers) = Registry::<H, C, S, Kept<V>>::new(alloc, filters, outlet, blanks)?;
     let share = work(rt, &registry, only(workers), meta)?;
@@ -85,7 +78,7 @@ fn work<H: Ledger, C: Ledger, S: Setup, V: Say, R: Wait>(
         None => Ok(worker.leave()), // no layer wants it
         Some(span) => match registry.try_close(rt, &mut worker, span) {
             Ok(_closed) => Ok(worker.leave()),
-            Err((span, _fault)) => Ok(worker.leave().join(span.into_share())),
+            Err(RefusedClose { handle, fault: _ }) => Ok(worker.leave().join(handle.into_share())),
         },
     }
 }

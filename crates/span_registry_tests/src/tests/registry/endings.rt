@@ -1,57 +1,55 @@
-//! Registries that end with handles given up, entries left or nothing.
+//! Calls on registries, and how these end: with handles given up, entries left or nothing.
 use crate::tests::registry::acts::{Act, numbered};
-use crate::tests::registry::ended::{Deed, Ended, has_numbers, run_to_end};
-use crate::tests::registry::ended_by_reading::run_to_last_line;
-use crate::tests::registry::ended_on_a_ring::run_to_end_on_a_ring;
+use crate::tests::registry::ended_on_a_ring::run_to_end;
 use crate::tests::registry::layers::{EVERYTHING, Plan};
-use crate::tests::registry::same::is_text;
+use crate::tests::registry::same::same;
 use span_id::{Level, Limits};
-use std::alloc::Global;
+use span_registry::Report;
+use std::alloc::{AllocError, Global};
 use std::process::Abort;
 use std::sync::Wait;
-use std::thread::Threads;
 
-/// Calls on a registry with these layers and how it ends: what it answers, what is left of each worker and then of each
-/// handle, its report's numbers and its lines.
+/// Calls on a registry with these layers and how it ends: what it answers, its report's numbers and its lines.
 #[derive(Clone, Copy)]
 pub(crate) struct Ending<'a> {
     pub(crate) plans: &'a [Plan<'a>],
     pub(crate) acts: &'a [(u32, Act<'a>)],
     pub(crate) answers: &'a str,
-    pub(crate) counts: &'a str,
     pub(crate) numbers: &'a str,
     pub(crate) lines: &'a str,
 }
 
-// A registry of these limits ends so, whether its outlet keeps the lines, or is a ring whose lines a drain keeps or a
-// reader gives out.
-fn ends<R: Threads + Wait + Abort + Sync>(rt: &R, alloc: Global, limits: Limits, ending: &Ending) {
-    let deed = Deed::Calls(ending.acts);
-    let ended = run_to_end(rt, alloc, limits, ending.plans, deed);
-    is_ending(rt, alloc, &ended, ending);
-    ends_on_a_ring(rt, alloc, limits, ending);
-    let read = run_to_last_line(rt, alloc, limits, ending.plans, ending.acts);
-    is_ending(rt, alloc, &read, ending);
+// The numbers of a report, in words.
+fn numbers(alloc: Global, report: &Report) -> Result<String, AllocError> {
+    let Report {
+        left,
+        handles,
+        entries,
+        calls,
+        made,
+        closed,
+        lines: _,
+        refused,
+    } = report;
+    format!(in alloc;
+        "left {left} handles {handles} entries {entries} calls {calls} made {made} closed {closed} refused {refused}"
+    )
 }
 
-/// A registry over a ring, of these limits, ends so.
-pub(crate) fn ends_on_a_ring<R: Wait + Abort>(
-    rt: &R,
-    alloc: Global,
-    limits: Limits,
-    ending: &Ending,
-) {
-    let ended = run_to_end_on_a_ring(rt, alloc, limits, ending.plans, ending.acts);
-    is_ending(rt, alloc, &ended, ending);
+// The report has these numbers and these lines.
+fn is_report(rt: &impl Abort, alloc: Global, report: &Report, ending: &Ending) {
+    let counts = numbers(alloc, report).expect(rt, "memory");
+    same(rt, counts.as_str(), ending.numbers);
+    let lines = numbered(rt, alloc, report.lines.as_slice());
+    same(rt, lines.as_str(), ending.lines);
 }
 
-// A registry ended so.
-fn is_ending(rt: &impl Abort, alloc: Global, ended: &Ended, ending: &Ending) {
-    is_text(rt, ended.transcript.answers.as_slice(), ending.answers);
-    is_text(rt, ended.transcript.counts.as_slice(), ending.counts);
-    has_numbers(rt, alloc, &ended.report, ending.numbers);
-    let lines = numbered(rt, alloc, ended.report.lines.as_slice());
-    is_text(rt, lines.as_slice(), ending.lines);
+/// A registry of these limits ends so.
+pub(crate) fn ends<R: Wait + Abort>(rt: &R, alloc: Global, limits: Limits, ending: &Ending) {
+    let mut answers = String::new(alloc);
+    let report = run_to_end(rt, alloc, limits, ending.plans, ending.acts, &mut answers);
+    same(rt, answers.as_str(), ending.answers);
+    is_report(rt, alloc, &report, ending);
 }
 
 const EVERY_ANSWER: &str = "\
@@ -60,11 +58,11 @@ const EVERY_ANSWER: &str = "\
 = entered
 = recorded
 = told
-= a parent 0 handles 2 entries 1 count 3
+Ok(Some(Found { name: \"a\", parent: None, handles: 2, entries: 1, count: 3 }))
 = open
 = open
 = closed
-= none
+Ok(None)
 ";
 
 const EVERY_LINE: &str = "\
@@ -108,7 +106,6 @@ static ENDINGS: [(Limits, Ending<'static>); 7] = [
                 (0, Act::Find(1)),
             ],
             answers: EVERY_ANSWER,
-            counts: "units 0 accepted 8\n",
             numbers: "left 0 handles 0 entries 0 calls 8 made 1 closed 1 refused 0",
             lines: EVERY_LINE,
         },
@@ -120,7 +117,6 @@ static ENDINGS: [(Limits, Ending<'static>); 7] = [
             plans: &[EVERYTHING],
             acts: &[(0, Act::New("a"))],
             answers: "= 1\n",
-            counts: "units 0 accepted 1\nunits 1 accepted 0\n",
             numbers: "left 1 handles 1 entries 0 calls 1 made 1 closed 0 refused 0",
             lines: "0 0 0 new 1 w0 a\n",
         },
@@ -136,7 +132,6 @@ static ENDINGS: [(Limits, Ending<'static>); 7] = [
                 (0, Act::Close(1)),
             ],
             answers: "= 1\n= 2\n= open\n",
-            counts: "units 0 accepted 3\nunits 1 accepted 0\n",
             numbers: "left 2 handles 1 entries 0 calls 3 made 2 closed 0 refused 0",
             lines: "",
         },
@@ -148,7 +143,6 @@ static ENDINGS: [(Limits, Ending<'static>); 7] = [
             plans: &[EVERYTHING],
             acts: &[(0, Act::New("a")), (1, Act::Close(1))],
             answers: "= 1\n= closed\n",
-            counts: "units 0 accepted 1\nunits 0 accepted 1\n",
             numbers: "left 0 handles 0 entries 0 calls 2 made 1 closed 1 refused 0",
             lines: "0 0 0 new 1 w0 a\n1 0 0 close 1 w1 a\n",
         },
@@ -160,7 +154,6 @@ static ENDINGS: [(Limits, Ending<'static>); 7] = [
             plans: &[EVERYTHING],
             acts: &[(0, Act::New("a")), (0, Act::Enter(1)), (0, Act::Close(1))],
             answers: "= 1\n= entered\n= open\n",
-            counts: "units 0 accepted 3\n",
             numbers: "left 1 handles 0 entries 1 calls 3 made 1 closed 0 refused 0",
             lines: "0 0 0 new 1 w0 a\n1 0 0 enter 1 w0 a\n",
         },
@@ -185,7 +178,6 @@ static ENDINGS: [(Limits, Ending<'static>); 7] = [
                 (0, Act::Close(1)),
             ],
             answers: "= 1\n! bad name\n! unknown\n! count full\n! full\n! unknown\n! not entered\n= closed\n",
-            counts: "units 0 accepted 2\n",
             numbers: "left 0 handles 0 entries 0 calls 2 made 1 closed 1 refused 0",
             lines: "",
         },
@@ -210,7 +202,6 @@ static ENDINGS: [(Limits, Ending<'static>); 7] = [
                 (0, Act::Close(16777217)),
             ],
             answers: "= 1\n= closed\n= 16777217\n! unknown\n! not entered\n! unknown\n= cloned\n= open\n= closed\n",
-            counts: "units 0 accepted 6\n",
             numbers: "left 0 handles 0 entries 0 calls 6 made 2 closed 2 refused 0",
             lines: "",
         },

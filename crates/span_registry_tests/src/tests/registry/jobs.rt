@@ -8,29 +8,25 @@ use std::process::Abort;
 use std::sync::Wait;
 use std::sync::ledger::Ledger;
 
-/// What all workers do at a time.
+/// What all workers do at a time. Of each job that is entered, closed or left an event tells.
 #[derive(Clone, Copy)]
 pub(crate) enum Task {
     /// Make so many jobs, and keep a handle of each.
     Make(u32),
-    /// Enter the spans of all handles, and tell an event in each.
+    /// Enter the spans of all handles.
     Enter,
     /// Close all handles.
     Close,
     /// Leave all spans.
     Leave,
-    /// Make a job, and close its handle.
-    Round,
 }
 
-/// A worker, the handles that it has, the spans that it is inside, and how many spans it closed.
+/// A worker, the handles that it has, and the spans that it is inside.
 #[derive(Drop)]
 pub(crate) struct Station<H: Ledger, C: Ledger, S: Setup> {
     pub(crate) worker: Worker<H, C, S>,
     pub(crate) held: Vec<DroppableHandle<H, C, S>>,
     pub(crate) inside: Vec<Id>,
-    pub(crate) closed_by_close: u32,
-    pub(crate) closed_by_exit: u32,
 }
 
 // The calls on a new job of this id, with a step inside it. It is entered by its first handle while it has a second one,
@@ -49,24 +45,16 @@ fn visit(job: Id) -> [Act<'static>; 7] {
 
 const TOCK: Act = Act::Event(Level::Info, "tock", &[]);
 
-// How many spans a call closed, which has to be accepted, and a new span wanted.
-fn closed_by(answer: Answer) -> Result<u32, Fault> {
+// A call has to be accepted, and a new span wanted.
+fn is_accepted(answer: Answer) -> Result<(), Fault> {
     match answer {
-        Answer::Closed(true) => Ok(1),
-        Answer::Made(_)
-        | Answer::Cloned
-        | Answer::Entered(_)
-        | Answer::Closed(false)
-        | Answer::Recorded
-        | Answer::Told => Ok(0),
         Answer::Refused(fault) => Err(fault),
-        Answer::NotWanted | Answer::Counted(..) | Answer::Stepped(_) | Answer::NoWorker => {
-            Err(Fault::BadName)
-        }
+        Answer::NotWanted | Answer::Counted(..) | Answer::Stepped(_) => Err(Fault::BadName),
+        _ => Ok(()),
     }
 }
 
-// All calls; how many spans they closed.
+// All calls, which have to be accepted.
 fn make_calls<H: Ledger, C: Ledger, S: Setup, O: Outlet, R: Wait + Abort>(
     rt: &R,
     alloc: Global,
@@ -74,39 +62,26 @@ fn make_calls<H: Ledger, C: Ledger, S: Setup, O: Outlet, R: Wait + Abort>(
     worker: &mut Worker<H, C, S>,
     held: &mut Vec<DroppableHandle<H, C, S>>,
     acts: &[Act],
-) -> u32 {
-    let mut closed = 0u32;
+) {
     for act in acts {
         let answer = call(rt, alloc, registry, worker, held, act);
-        let more = closed_by(answer).expect(rt, "a call is refused");
-        closed = closed.saturating_add(more);
+        is_accepted(answer).expect(rt, "a call is refused");
     }
-    closed
 }
 
-// The first eight calls of a round: a job, of which one handle is left.
-fn make_job<H: Ledger, C: Ledger, S: Setup, O: Outlet, R: Wait + Abort>(
+// Jobs, of each of which one handle is left.
+fn make_jobs<H: Ledger, C: Ledger, S: Setup, O: Outlet, R: Wait + Abort>(
     rt: &R,
     alloc: Global,
     registry: &Registry<H, C, S, O>,
     worker: &mut Worker<H, C, S>,
     held: &mut Vec<DroppableHandle<H, C, S>>,
-) {
-    make_calls(rt, alloc, registry, worker, held, &[Act::Child("job", 0)]);
-    let job = held.last().expect(rt, "a job").handle.id();
-    make_calls(rt, alloc, registry, worker, held, &visit(job));
-}
-
-fn make_jobs<H: Ledger, C: Ledger, S: Setup, O: Outlet, R: Wait + Abort>(
-    rt: &R,
-    alloc: Global,
-    registry: &Registry<H, C, S, O>,
-    station: &mut Station<H, C, S>,
     rounds: u32,
 ) {
-    let Station { worker, held, .. } = station;
     for _ in 0..rounds {
-        make_job(rt, alloc, registry, worker, held);
+        make_calls(rt, alloc, registry, worker, held, &[Act::Child("job", 0)]);
+        let job = held.last().expect(rt, "a job").handle.id();
+        make_calls(rt, alloc, registry, worker, held, &visit(job));
     }
 }
 
@@ -123,62 +98,27 @@ fn ids_of<H: Ledger, C: Ledger, S: Setup>(
     ids
 }
 
-fn enter_jobs<H: Ledger, C: Ledger, S: Setup, O: Outlet, R: Wait + Abort>(
+// What is done with a job that is there.
+fn act_on(task: Task, job: Id) -> Act<'static> {
+    match task {
+        Task::Enter => Act::Enter(job.get()),
+        Task::Close => Act::Close(job.get()),
+        Task::Make(_) | Task::Leave => Act::Exit(job.get()),
+    }
+}
+
+fn visit_jobs<H: Ledger, C: Ledger, S: Setup, O: Outlet, R: Wait + Abort>(
     rt: &R,
     alloc: Global,
     registry: &Registry<H, C, S, O>,
-    station: &mut Station<H, C, S>,
+    worker: &mut Worker<H, C, S>,
+    held: &mut Vec<DroppableHandle<H, C, S>>,
+    jobs: &[Id],
+    task: Task,
 ) {
-    let Station {
-        worker,
-        held,
-        inside,
-        ..
-    } = station;
-    let jobs = ids_of(rt, alloc, held.as_slice());
-    for id in jobs.as_slice() {
-        let acts = [Act::Enter(id.get()), TOCK];
+    for job in jobs {
+        let acts = [act_on(task, *job), TOCK];
         make_calls(rt, alloc, registry, worker, held, &acts);
-        inside.push(*id).expect(rt, "memory");
-    }
-}
-
-fn close_jobs<H: Ledger, C: Ledger, S: Setup, O: Outlet, R: Wait + Abort>(
-    rt: &R,
-    alloc: Global,
-    registry: &Registry<H, C, S, O>,
-    station: &mut Station<H, C, S>,
-) {
-    let Station {
-        worker,
-        held,
-        closed_by_close,
-        ..
-    } = station;
-    let jobs = ids_of(rt, alloc, held.as_slice());
-    for id in jobs.as_slice() {
-        let acts = [Act::Close(id.get())];
-        let closed = make_calls(rt, alloc, registry, worker, held, &acts);
-        *closed_by_close = closed_by_close.saturating_add(closed);
-    }
-}
-
-fn leave_jobs<H: Ledger, C: Ledger, S: Setup, O: Outlet, R: Wait + Abort>(
-    rt: &R,
-    alloc: Global,
-    registry: &Registry<H, C, S, O>,
-    station: &mut Station<H, C, S>,
-) {
-    let Station {
-        worker,
-        held,
-        inside,
-        closed_by_exit,
-        ..
-    } = station;
-    for id in inside.as_slice() {
-        let closed = make_calls(rt, alloc, registry, worker, held, &[Act::Exit(id.get())]);
-        *closed_by_exit = closed_by_exit.saturating_add(closed);
     }
 }
 
@@ -189,15 +129,22 @@ fn perform<H: Ledger, C: Ledger, S: Setup, O: Outlet, R: Wait + Abort>(
     station: &mut Station<H, C, S>,
     task: Task,
 ) {
+    let Station {
+        worker,
+        held,
+        inside,
+    } = station;
     match task {
-        Task::Make(rounds) => make_jobs(rt, alloc, registry, station, rounds),
-        Task::Enter => enter_jobs(rt, alloc, registry, station),
-        Task::Close => close_jobs(rt, alloc, registry, station),
-        Task::Leave => leave_jobs(rt, alloc, registry, station),
-        Task::Round => {
-            make_jobs(rt, alloc, registry, station, 1);
-            close_jobs(rt, alloc, registry, station);
+        Task::Make(rounds) => make_jobs(rt, alloc, registry, worker, held, rounds),
+        Task::Enter => {
+            *inside = ids_of(rt, alloc, held.as_slice());
+            visit_jobs(rt, alloc, registry, worker, held, inside.as_slice(), task);
         }
+        Task::Close => {
+            let jobs = ids_of(rt, alloc, held.as_slice());
+            visit_jobs(rt, alloc, registry, worker, held, jobs.as_slice(), task);
+        }
+        Task::Leave => visit_jobs(rt, alloc, registry, worker, held, inside.as_slice(), task),
     }
 }
 

@@ -1,16 +1,14 @@
-//! Calls on a registry, with the handles that it gave.
-ghost use Rattle.std.specs.Prelude.{◌≡◌};
+//! Calls on a registry over a ring, with the handles that it gave and the steps of its drain.
+ghost use Rattle.std.specs.Prelude.{◌≡◌, Some};
 
 use crate::tests::registry::acts::{
-    Act, Answer, NEWEST, Sight, Transcript, accepted, closed, entered, looked_for, parent_of,
-    push_sight, said_by,
+    Act, Answer, NEWEST, accepted, closed, parent_of, push_answer, push_shown, said_by,
 };
-use crate::tests::registry::asked::{Asked, push_asked};
 use crate::tests::registry::layers::Said;
-use crate::tests::registry::steps::Steps;
 use span_id::{Fault, Id};
 use span_registry::{
-    DroppableHandle, Found, HANDLE_PARTS, Handle, Outlet, ParentOf, Registry, Setup, Worker,
+    Drain, DroppableHandle, HANDLE_PARTS, Handle, Outlet, ParentOf, RefusedClose, Registry, Ring,
+    Setup, Worker,
 };
 use std::alloc::Global;
 use std::process::Abort;
@@ -48,33 +46,6 @@ fn make<H: Ledger, C: Ledger, S: Setup, O: Outlet, R: Wait>(
     }
 }
 
-// An event.
-fn tell<H: Ledger, C: Ledger, S: Setup, O: Outlet, R: Wait>(
-    rt: &R,
-    registry: &Registry<H, C, S, O>,
-    worker: &mut Worker<H, C, S>,
-    message: &str,
-    said: &Said,
-) -> Answer {
-    let fields = said.fields.as_slice();
-    let told = registry.event(rt, worker, &said.meta, message, fields);
-    accepted(told, Answer::Told)
-}
-
-// An event under this parent.
-fn tell_in<H: Ledger, C: Ledger, S: Setup, O: Outlet, R: Wait>(
-    rt: &R,
-    registry: &Registry<H, C, S, O>,
-    worker: &mut Worker<H, C, S>,
-    parent: ParentOf,
-    message: &str,
-    said: &Said,
-) -> Answer {
-    let fields = said.fields.as_slice();
-    let told = registry.event_in(rt, worker, &said.meta, message, fields, parent);
-    accepted(told, Answer::Told)
-}
-
 // The place of a handle of this id.
 fn place_of<H: Ledger, C: Ledger, S: Setup>(
     held: &[DroppableHandle<H, C, S>],
@@ -91,60 +62,37 @@ fn place_of<H: Ledger, C: Ledger, S: Setup>(
     None
 }
 
-// A handle of this id.
-fn lent<'a, H: Ledger, C: Ledger, S: Setup>(
-    held: &'a mut Vec<DroppableHandle<H, C, S>>,
-    number: u64,
-) -> Option<&'a mut DroppableHandle<H, C, S>> {
-    let place = place_of(held.as_slice(), number)?;
-    held.get_mut(place)
-}
-
-// Fields for the span of a handle.
-fn record<H: Ledger, C: Ledger, S: Setup, O: Outlet, R: Wait>(
+// A handle of this id is lent: for one more of its span, for an entry or for fields.
+fn lend<H: Ledger, C: Ledger, S: Setup, O: Outlet, R: Wait>(
     rt: &R,
     registry: &Registry<H, C, S, O>,
     worker: &mut Worker<H, C, S>,
     held: &mut Vec<DroppableHandle<H, C, S>>,
+    act: &Act,
     number: u64,
     said: &Said,
 ) -> Answer {
-    let Some(one) = lent(held, number) else {
+    let Some(place) = place_of(held.as_slice(), number) else {
         return Answer::Refused(Fault::Unknown);
     };
-    let recorded = registry.record(rt, worker, &mut one.handle, said.fields.as_slice());
-    accepted(recorded, Answer::Recorded)
-}
-
-// A handle more of the span of a handle.
-fn clone_one<H: Ledger, C: Ledger, S: Setup, O: Outlet, R: Wait>(
-    rt: &R,
-    registry: &Registry<H, C, S, O>,
-    worker: &mut Worker<H, C, S>,
-    held: &mut Vec<DroppableHandle<H, C, S>>,
-    number: u64,
-) -> Answer {
-    let Some(one) = lent(held, number) else {
+    let Some(one) = held.get_mut(place) else {
         return Answer::Refused(Fault::Unknown);
     };
-    match registry.clone_span(rt, worker, &mut one.handle) {
-        Ok(handle) => keep(held, handle, Answer::Cloned),
-        Err(fault) => Answer::Refused(fault),
+    match act {
+        Act::Clone(_) => match registry.clone_span(rt, worker, &mut one.handle) {
+            Ok(handle) => keep(held, handle, Answer::Cloned),
+            Err(fault) => Answer::Refused(fault),
+        },
+        Act::Enter(_) => match registry.enter(rt, worker, &mut one.handle) {
+            Ok(first) => Answer::Entered(first),
+            Err(fault) => Answer::Refused(fault),
+        },
+        _ => {
+            let fields = said.fields.as_slice();
+            let recorded = registry.record(rt, worker, &mut one.handle, fields);
+            accepted(recorded, Answer::Recorded)
+        }
     }
-}
-
-// The worker enters the span of a handle.
-fn enter<H: Ledger, C: Ledger, S: Setup, O: Outlet, R: Wait>(
-    rt: &R,
-    registry: &Registry<H, C, S, O>,
-    worker: &mut Worker<H, C, S>,
-    held: &mut Vec<DroppableHandle<H, C, S>>,
-    number: u64,
-) -> Answer {
-    let Some(one) = lent(held, number) else {
-        return Answer::Refused(Fault::Unknown);
-    };
-    entered(registry.enter(rt, worker, &mut one.handle))
 }
 
 // Gives a handle back, which is kept where that is refused.
@@ -157,7 +105,7 @@ fn give_back<H: Ledger, C: Ledger, S: Setup, O: Outlet, R: Wait>(
 ) -> Answer {
     match registry.try_close(rt, worker, handle) {
         Ok(closed) => Answer::Closed(closed),
-        Err((handle, fault)) => keep(held, handle, Answer::Refused(fault)),
+        Err(RefusedClose { handle, fault }) => keep(held, handle, Answer::Refused(fault)),
     }
 }
 
@@ -178,37 +126,7 @@ fn close<H: Ledger, C: Ledger, S: Setup, O: Outlet, R: Wait>(
     }
 }
 
-// The id of this number, or that of the newest handle.
-fn id_of<H: Ledger, C: Ledger, S: Setup>(
-    held: &[DroppableHandle<H, C, S>],
-    number: u64,
-) -> Option<Id> {
-    if number == NEWEST {
-        return held.last().map(|one| one.handle.id());
-    }
-    Id::from_u64(number)
-}
-
-// The worker leaves the span of an id.
-fn leave<H: Ledger, C: Ledger, S: Setup, O: Outlet, R: Wait>(
-    rt: &R,
-    registry: &Registry<H, C, S, O>,
-    worker: &mut Worker<H, C, S>,
-    id: Option<Id>,
-) -> Answer {
-    let Some(id) = id else {
-        return Answer::Refused(Fault::Unknown);
-    };
-    closed(registry.exit(rt, worker, id))
-}
-
-// What was counted of a worker.
-fn counted<H: Ledger, C: Ledger, S: Setup>(worker: &Worker<H, C, S>) -> Answer {
-    let out = HANDLE_PARTS.wrapping_sub(worker.spare());
-    Answer::Counted(worker.accepted(), out)
-}
-
-// A call that is told something else than a worker and a span.
+// A call that is told something, or lent a handle.
 fn pass<H: Ledger, C: Ledger, S: Setup, O: Outlet, R: Wait>(
     rt: &R,
     registry: &Registry<H, C, S, O>,
@@ -217,19 +135,24 @@ fn pass<H: Ledger, C: Ledger, S: Setup, O: Outlet, R: Wait>(
     act: &Act,
     said: &Said,
 ) -> Answer {
+    let (meta, fields, parent) = (&said.meta, said.fields.as_slice(), parent_of(act));
     match act {
-        Act::Event(_, message, _) => tell(rt, registry, worker, message, said),
-        Act::EventIn(_, message) => tell_in(rt, registry, worker, parent_of(act), message, said),
-        Act::Record(number, _) => record(rt, registry, worker, held, *number, said),
-        Act::New(_) | Act::Child(..) | Act::Make(..) => {
-            make(rt, registry, worker, held, parent_of(act), said)
+        Act::Event(_, message, _) => {
+            let told = registry.event(rt, worker, meta, message, fields);
+            accepted(told, Answer::Told)
         }
-        // The other calls are told no more.
-        _ => Answer::Refused(Fault::Unknown),
+        Act::EventIn(_, message) => {
+            let told = registry.event_in(rt, worker, meta, message, fields, parent);
+            accepted(told, Answer::Told)
+        }
+        Act::Clone(number) | Act::Enter(number) | Act::Record(number, _) => {
+            lend(rt, registry, worker, held, act, *number, said)
+        }
+        _ => make(rt, registry, worker, held, parent, said),
     }
 }
 
-/// What a registry answers to a call of this worker; the handles that it gives are kept. It has no drain.
+/// What a registry answers to a call of this worker; the handles that it gives are kept. Looks and steps are no calls.
 pub(crate) fn call<H: Ledger, C: Ledger, S: Setup, O: Outlet, R: Wait + Abort>(
     rt: &R,
     alloc: Global,
@@ -239,14 +162,16 @@ pub(crate) fn call<H: Ledger, C: Ledger, S: Setup, O: Outlet, R: Wait + Abort>(
     act: &Act,
 ) -> Answer {
     match act {
-        Act::Clone(number) => clone_one(rt, registry, worker, held, *number),
-        Act::Enter(number) => enter(rt, registry, worker, held, *number),
-        Act::Exit(number) => leave(rt, registry, worker, id_of(held.as_slice(), *number)),
         Act::Close(number) => close(rt, registry, worker, held, *number),
-        Act::Count => counted(worker),
-        // A look that names no id.
-        Act::Find(_) | Act::Ask(_) => Answer::Refused(Fault::Unknown),
-        Act::Step => Answer::Stepped(None),
+        Act::Exit(number) => match Id::from_u64(*number) {
+            Some(id) => closed(registry.exit(rt, worker, id)),
+            None => Answer::Refused(Fault::Unknown),
+        },
+        Act::Count => {
+            let out = HANDLE_PARTS.wrapping_sub(worker.spare());
+            Answer::Counted(worker.accepted(), out)
+        }
+        Act::Find(_) | Act::Ask(_) | Act::Step => Answer::Stepped(None),
         _ => {
             let said = said_by(rt, alloc, act);
             pass(rt, registry, worker, held, act, &said)
@@ -254,119 +179,72 @@ pub(crate) fn call<H: Ledger, C: Ledger, S: Setup, O: Outlet, R: Wait + Abort>(
     }
 }
 
-// What was found of a span.
-fn sight_of(found: &Found) -> Sight<'_> {
-    let Found {
-        name,
-        parent,
-        handles,
-        entries,
-        count,
-    } = found;
-    Sight {
-        name: name.as_str(),
-        parent: parent.map_or(0, Id::get),
-        handles: *handles,
-        entries: *entries,
-        count: *count,
-    }
-}
-
-// What `find` answers of a span.
-fn note_found<H: Ledger, C: Ledger, S: Setup, O: Outlet, R: Wait + Abort>(
+// What is open, what is held at all, what holds one span, who is inside it, and what is told of all spans.
+fn push_asked<H: Ledger, C: Ledger, S: Setup, O: Outlet, R: Wait + Abort>(
     rt: &R,
-    alloc: Global,
     registry: &Registry<H, C, S, O>,
     worker: &mut Worker<H, C, S>,
     id: Id,
-    finds: &mut Vec<u8>,
+    answers: &mut String,
 ) {
-    match registry.find(rt, alloc, worker, id).expect(rt, "memory") {
-        None => push_sight(rt, alloc, finds, None),
-        Some(found) => push_sight(rt, alloc, finds, Some(&sight_of(&found))),
-    }
-}
-
-// What holds all spans, and what holds this one.
-fn note_asked<H: Ledger, C: Ledger, S: Setup, O: Outlet, R: Wait + Abort>(
-    rt: &R,
-    alloc: Global,
-    registry: &Registry<H, C, S, O>,
-    worker: &mut Worker<H, C, S>,
-    id: Id,
-    answers: &mut Vec<u8>,
-) {
-    let asked = Asked {
-        open: registry.open_spans(rt, worker).expect(rt, "memory"),
-        held: registry.held_spans(rt, worker).expect(rt, "memory"),
-        holders: registry.holders_of(rt, worker, id),
-        inside: registry.workers_inside(rt, worker, id).expect(rt, "memory"),
-        details: registry.span_details(rt, worker).expect(rt, "memory"),
-    };
-    push_asked(rt, alloc, answers, &asked);
+    push_shown(rt, answers, &registry.open_spans(rt, worker));
+    push_shown(rt, answers, &registry.held_spans(rt, worker));
+    push_shown(rt, answers, &registry.holders_of(rt, worker, id));
+    push_shown(rt, answers, &registry.workers_inside(rt, worker, id));
+    push_shown(rt, answers, &registry.span_details(rt, worker));
 }
 
 // A call, a look or a step of the drain.
-fn note_act<H: Ledger, C: Ledger, S: Setup, O: Outlet, D: Steps, R: Wait + Abort>(
+fn note_act<H: Ledger, C: Ledger, S: Setup, R: Wait + Abort>(
     rt: &R,
     alloc: Global,
-    registry: &Registry<H, C, S, O>,
-    drain: &mut D,
+    registry: &Registry<H, C, S, Ring>,
+    drain: &mut Drain,
     worker: &mut Worker<H, C, S>,
     held: &mut Vec<DroppableHandle<H, C, S>>,
     act: &Act,
-    transcript: &mut Transcript,
+    answers: &mut String,
 )
-    ensures name { D.name drain.new ≡ D.name drain.old }
+    ensures name { drain.new.name ≡ drain.old.name }
 {
-    match (looked_for(act), act) {
-        (Some(id), Act::Ask(_)) => {
-            note_asked(rt, alloc, registry, worker, id, &mut transcript.answers);
+    match act {
+        Act::Step => push_answer(rt, answers, &Answer::Stepped(drain.step())),
+        Act::Find(number) => {
+            let id = Id::from_u64(*number).expect(rt, "an id");
+            push_shown(rt, answers, &registry.find(rt, alloc, worker, id));
         }
-        (Some(id), _) => {
-            note_found(rt, alloc, registry, worker, id, &mut transcript.answers);
+        Act::Ask(number) => {
+            let id = Id::from_u64(*number).expect(rt, "an id");
+            push_asked(rt, registry, worker, id, answers);
         }
-        (None, Act::Step) => transcript.answer(rt, alloc, &Answer::Stepped(drain.step())),
         _ => {
             let answer = call(rt, alloc, registry, worker, held, act);
-            transcript.answer(rt, alloc, &answer);
+            push_answer(rt, answers, &answer);
         }
     }
 }
 
-// What `find` answers of each span.
-fn note_finds<H: Ledger, C: Ledger, S: Setup, O: Outlet, R: Wait + Abort>(
+/// All calls, each made by the worker beside it, and the steps of the drain. At the end the first worker sees what the
+/// drain has taken, which changes nothing else. The handles that are left are kept.
+pub(crate) fn calls<H: Ledger, C: Ledger, S: Setup, R: Wait + Abort>(
     rt: &R,
     alloc: Global,
-    registry: &Registry<H, C, S, O>,
-    worker: &mut Worker<H, C, S>,
-    transcript: &mut Transcript,
-) {
-    let Transcript { ids, finds, .. } = transcript;
-    for id in ids.as_slice() {
-        note_found(rt, alloc, registry, worker, *id, finds);
-    }
-}
-
-/// All calls, each made by the worker beside it, and the steps of the drain; and what `find` answers after each. The
-/// handles that are left are kept.
-pub(crate) fn calls<H: Ledger, C: Ledger, S: Setup, O: Outlet, D: Steps, R: Wait + Abort>(
-    rt: &R,
-    alloc: Global,
-    registry: &Registry<H, C, S, O>,
-    drain: &mut D,
+    registry: &Registry<H, C, S, Ring>,
+    drain: &mut Drain,
     workers: &mut [Worker<H, C, S>],
     held: &mut Vec<DroppableHandle<H, C, S>>,
     acts: &[(u32, Act)],
-    transcript: &mut Transcript,
+    answers: &mut String,
 )
-    ensures name { D.name drain.new ≡ D.name drain.old }
+    requires pair { Some drain.old.name ≡ S.ring }
+    ensures name { drain.new.name ≡ drain.old.name }
 {
     for (number, act) in acts {
         let worker = workers
             .get_mut(*number as usize)
             .expect(rt, "no such worker");
-        note_act(rt, alloc, registry, drain, worker, held, act, transcript);
-        note_finds(rt, alloc, registry, worker, transcript);
+        note_act(rt, alloc, registry, drain, worker, held, act, answers);
     }
+    let first = workers.first_mut().expect(rt, "a worker");
+    registry.drained(rt, first, drain);
 }

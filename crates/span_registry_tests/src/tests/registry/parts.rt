@@ -1,13 +1,8 @@
 //! Shares that know how many parts they have.
-ghost use Rattle.std.specs.Prelude.{◌≡◌, ◌+◌, ◌^◌, ◌<◌, Some, IfSome, OnSome};
+ghost use Rattle.std.specs.Prelude.{◌≡◌, ◌+◌, ◌^◌, ◌<◌, IfSome, OnSome};
 ghost use Rattle.span_registry.specs.Share.{IsWhole};
 
-use span_layers::{Admit, Say};
-use span_outlet::{Drain, Kept, LineReader, Ring};
-use span_registry::{
-    Counts, DroppableHandle, HANDLE_PARTS, Registry, Report, Setup, Share, Worker,
-};
-use std::alloc::Global;
+use span_registry::{DroppableHandle, HANDLE_PARTS, Setup, Share, Worker};
 use std::process::Abort;
 use std::sync::ledger::Ledger;
 
@@ -68,55 +63,36 @@ impl<H: Ledger, C: Ledger, S: Setup> Part<H, C, S> {
     }
 }
 
-// Notes the units and the accepted calls of a part on a line.
-fn note_counts<H: Ledger, C: Ledger, S: Setup>(
-    rt: &impl Abort,
-    alloc: Global,
-    counts: &mut Vec<u8>,
-    part: &Part<H, C, S>,
-) {
-    let (units, accepted) = (part.share.units(), part.share.accepted());
-    let line = format!(in alloc; "units {units} accepted {accepted}\n").expect(rt, "memory");
-    counts
-        .extend_from_slice(line.as_bytes())
-        .expect(rt, "memory");
-}
-
-// The parts so far with one more, whose counts are noted.
+// The parts so far with one more.
 fn with_part<H: Ledger, C: Ledger, S: Setup>(
     rt: &impl Abort,
-    alloc: Global,
-    counts: &mut Vec<u8>,
     whole: Option<Part<H, C, S>>,
     part: Part<H, C, S>,
 ) -> Option<Part<H, C, S>> {
-    note_counts(rt, alloc, counts, &part);
     match whole {
         None => Some(part),
         Some(before) => Some(before.join(rt, part)),
     }
 }
 
-/// The parts of workers that leave and of handles that are given up, put together; what each had is noted.
+/// The parts of workers that leave and of handles that are given up, put together.
 pub(crate) fn gather<H: Ledger, C: Ledger, S: Setup>(
     rt: &impl Abort,
-    alloc: Global,
-    counts: &mut Vec<u8>,
     workers: Vec<Worker<H, C, S>>,
     held: Vec<DroppableHandle<H, C, S>>,
 ) -> Option<Part<H, C, S>> {
     let mut whole = None;
     for worker in workers {
-        whole = with_part(rt, alloc, counts, whole, Part::of_worker(worker));
+        whole = with_part(rt, whole, Part::of_worker(worker));
     }
     for one in held {
-        whole = with_part(rt, alloc, counts, whole, Part::of_handle(one));
+        whole = with_part(rt, whole, Part::of_handle(one));
     }
     whole
 }
 
-// The share of a registry with so many workers; these have to be all its parts.
-fn whole_share<H: Ledger, C: Ledger, S: Setup>(
+/// The share of a registry with so many workers; these have to be all its parts.
+pub(crate) fn whole_share<H: Ledger, C: Ledger, S: Setup>(
     rt: &impl Abort,
     workers: u32,
     whole: Option<Part<H, C, S>>,
@@ -127,45 +103,4 @@ fn whole_share<H: Ledger, C: Ledger, S: Setup>(
     let whole = whole.expect(rt, "a part");
     assert!(rt; whole.handle_parts == HANDLE_PARTS && whole.call_parts == u64::from(workers));
     whole.share
-}
-
-/// The report of a registry with so many workers, of which these are all parts.
-pub(crate) fn finished<H: Ledger, C: Ledger, S: Setup, V: Say, A: Admit>(
-    rt: &impl Abort,
-    registry: Registry<H, C, S, Kept<V>, A>,
-    workers: u32,
-    whole: Option<Part<H, C, S>>,
-) -> Report
-    requires { (H.parts ≡ HANDLE_PARTS) × (C.parts ≡ workers) }
-{
-    registry.finish_kept(whole_share(rt, workers, whole))
-}
-
-/// The same of a registry whose outlet is the ring of this drain.
-pub(crate) fn drained<H: Ledger, C: Ledger, S: Setup, V: Say, A: Admit>(
-    rt: &impl Abort,
-    registry: Registry<H, C, S, Ring, A>,
-    workers: u32,
-    whole: Option<Part<H, C, S>>,
-    drain: Drain<V>,
-) -> Report
-    requires parts { (H.parts ≡ HANDLE_PARTS) × (C.parts ≡ workers) }
-    requires pair { Some drain.name ≡ S.ring }
-{
-    registry.finish(whole_share(rt, workers, whole), drain)
-}
-
-/// What a registry counts whose outlet is the ring of this reader, and the ring.
-pub(crate) fn counted<H: Ledger, C: Ledger, S: Setup, V, A: Admit>(
-    rt: &impl Abort,
-    registry: Registry<H, C, S, Ring, A>,
-    workers: u32,
-    whole: Option<Part<H, C, S>>,
-    reader: &mut LineReader<V>,
-) -> (Counts, Ring)
-    requires parts { (H.parts ≡ HANDLE_PARTS) × (C.parts ≡ workers) }
-    requires pair { Some reader.old.name ≡ S.ring }
-    ensures ring { result.1.name ≡ reader.new.name }
-{
-    registry.finish_reading(whole_share(rt, workers, whole), reader)
 }

@@ -6,8 +6,3 @@ use std::process::Abort;
 pub(crate) fn same<T: PartialEq + Debug + Copy>(rt: &impl Abort, answer: T, want: T) {
     assert_eq!(rt; answer, want);
 }
-
-/// Whether the bytes are this text.
-pub(crate) fn is_text(rt: &impl Abort, bytes: &[u8], want: &str) {
-    same(rt, str::from_utf8(bytes).ok(), Some(want));
-}

@@ -1,9 +1,6 @@
 //! Workers that take turns, each in a thread of its own.
-use crate::tests::registry::acts::Transcript;
-use crate::tests::registry::ended::{Deed, has_numbers, run_to_end, with_workers};
 use crate::tests::registry::jobs::{Station, Task, work};
 use crate::tests::registry::parts::{Part, gather};
-use crate::tests::registry::same::same;
 use span_registry::{DroppableHandle, Outlet, Registry, Setup, Worker};
 use std::alloc::Global;
 use std::process::Abort;
@@ -139,20 +136,7 @@ fn take_each_turn<
     stations
 }
 
-// A worker with no handle.
-fn station_of<H: Ledger, C: Ledger, S: Setup>(
-    alloc: Global,
-    worker: Worker<H, C, S>,
-) -> Station<H, C, S> {
-    Station {
-        worker,
-        held: Vec::new(alloc),
-        inside: Vec::new(alloc),
-        closed_by_close: 0,
-        closed_by_exit: 0,
-    }
-}
-
+// The workers, with no handle.
 fn stations_of<H: Ledger, C: Ledger, S: Setup>(
     rt: &impl Abort,
     alloc: Global,
@@ -160,34 +144,20 @@ fn stations_of<H: Ledger, C: Ledger, S: Setup>(
 ) -> Vec<Station<H, C, S>> {
     let mut stations = Vec::new(alloc);
     for worker in workers {
-        stations
-            .push(station_of(alloc, worker))
-            .expect(rt, "memory");
+        let station = Station {
+            worker,
+            held: Vec::new(alloc),
+            inside: Vec::new(alloc),
+        };
+        stations.push(station).expect(rt, "memory");
     }
     stations
-}
-
-// How many spans each worker closed by closing and by leaving, on a line.
-fn note_closed<H: Ledger, C: Ledger, S: Setup>(
-    rt: &impl Abort,
-    alloc: Global,
-    stations: &[Station<H, C, S>],
-    answers: &mut Vec<u8>,
-) {
-    for station in stations {
-        let (by_close, by_exit) = (station.closed_by_close, station.closed_by_exit);
-        let line = format!(in alloc; "{by_close} {by_exit}\n").expect(rt, "memory");
-        answers
-            .extend_from_slice(line.as_bytes())
-            .expect(rt, "memory");
-    }
 }
 
 // The parts of the workers, who have no handle left.
 fn leave<H: Ledger, C: Ledger, S: Setup>(
     rt: &impl Abort,
     alloc: Global,
-    counts: &mut Vec<u8>,
     stations: Vec<Station<H, C, S>>,
 ) -> Option<Part<H, C, S>> {
     let mut workers = Vec::new(alloc);
@@ -195,11 +165,10 @@ fn leave<H: Ledger, C: Ledger, S: Setup>(
         workers.push(station.worker).expect(rt, "memory");
     }
     let none: Vec<DroppableHandle<H, C, S>> = Vec::new(alloc);
-    gather(rt, alloc, counts, workers, none)
+    gather(rt, workers, none)
 }
 
-/// The workers take these turns, and close all handles in them. The answer is, for each, how many spans it closed by
-/// closing and by leaving.
+/// The workers take these turns, and close all handles in them. The answer is what they leave.
 pub(crate) fn take_turns<
     H: Ledger + Send + Sync,
     C: Ledger + Send + Sync,
@@ -212,19 +181,8 @@ pub(crate) fn take_turns<
     registry: &Registry<H, C, S, O>,
     workers: Vec<Worker<H, C, S>>,
     turns: &[Turn],
-    transcript: &mut Transcript,
 ) -> Option<Part<H, C, S>> {
     let stations: Vec<Station<H, C, S>> = stations_of(rt, alloc, workers);
     let stations = take_each_turn(rt, alloc, registry, stations, turns);
-    note_closed(rt, alloc, stations.as_slice(), &mut transcript.answers);
-    leave(rt, alloc, &mut transcript.counts, stations)
-}
-
-#[test]
-fn two_threads_make_a_round_each(rt: HostRuntime) {
-    let deed = Deed::InThreads(&[Turn::All(Task::Round)]);
-    let ended = run_to_end(&rt, rt.alloc(), with_workers(2), &[], deed);
-    let expected = "left 0 handles 0 entries 0 calls 18 made 4 closed 4 refused 0";
-    has_numbers(&rt, rt.alloc(), &ended.report, expected);
-    same(&rt, ended.report.lines.len(), 0);
+    leave(rt, alloc, stations)
 }

@@ -3,4 +3,4 @@ use Rattle.span_registry_tests.proofs.tests.registry.on_registry.calls.Given as 
 
 -- the drain keeps the name of its ring
 abbrev pub invariant-loop-number : goal.invariant-loop-number
-invariant-loop-number g l = g.D.Steps.name l.drain ≡ g.D.Steps.name l.initial.drain
+invariant-loop-number g l = l.drain.name ≡ l.initial.drain.name

@@ -1,5 +1,5 @@
 use Rattle.std.specs.Prelude.{[], Some}
-use Rattle.span_registry_tests.proofs.tests.registry.ended_on_a_ring.begun.Given as goal
+use Rattle.span_registry_tests.proofs.tests.registry.ended_by_reading.run_to_last_line.Given as goal
 
 abbrev pub ghosts-named-H-Ledger : goal.ghosts-named-H-Ledger
 ghosts-named-H-Ledger g a = record { name = a.blanks.handles; parts = a.blanks.handle_parts }

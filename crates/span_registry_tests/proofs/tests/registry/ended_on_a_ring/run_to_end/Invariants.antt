@@ -1,5 +1,5 @@
-use Rattle.std.specs.Prelude.{None}
-use Rattle.span_registry_tests.proofs.tests.registry.ended.begun.Given as goal
+use Rattle.std.specs.Prelude.{[], Some}
+use Rattle.span_registry_tests.proofs.tests.registry.ended_on_a_ring.run_to_end.Given as goal
 
 abbrev pub ghosts-named-H-Ledger : goal.ghosts-named-H-Ledger
 ghosts-named-H-Ledger g a = record { name = a.blanks.handles; parts = a.blanks.handle_parts }
@@ -8,7 +8,7 @@ abbrev pub ghosts-named-C-Ledger : goal.ghosts-named-C-Ledger
 ghosts-named-C-Ledger g a = record { name = a.blanks.calls; parts = a.blanks.call_parts }
 
 abbrev pub ghosts-named-S-Setup : goal.ghosts-named-S-Setup
-ghosts-named-S-Setup g a = record { limits = a.blanks.limits; rules = a.filters.rules; forms = a.outlet.forms; ring = None }
+ghosts-named-S-Setup g a = record { limits = a.blanks.limits; rules = a.filters.rules; forms = []; ring = Some a.ring.name }
 
 abbrev pub ghosts-named-S-TableName : goal.ghosts-named-S-TableName
 ghosts-named-S-TableName g a = record { table = a.blanks.table; history = a.blanks.history }
