@@ -53,8 +53,11 @@ typedef struct SpanLimits {
     uint32_t slots, last_generation, max_count, workers, ring;
 } SpanLimits;
 
-/* form 0 compact, 1 JSON; kinds a sum of 1 new, 2 enter, 4 exit, 8 close, of which it writes lines, beside those of
- * records and events; rules: how many of the rules are its own, and where none of them fits it admits nothing */
+/* of which happenings of a span a layer writes lines, beside those of records and events */
+enum { SPAN_KIND_NEW = 1, SPAN_KIND_ENTER = 2, SPAN_KIND_EXIT = 4, SPAN_KIND_CLOSE = 8, SPAN_KINDS_ALL = 15 };
+
+/* form 0 compact, 1 JSON; kinds a sum of these; rules: how many of the rules are its own, and where none of them
+ * fits it admits nothing */
 typedef struct SpanLayer {
     uint32_t form, kinds, rules;
 } SpanLayer;

@@ -4,7 +4,7 @@ Written from the rules alone and from no code. The rules of a script's lines and
 registry in `model_registry`, those of JSON in `strict_json`.
 """
 import strict_json
-from model_registry import HANDLE, LAST_ID, LAST_OLDER_ID, LEVELS, MOST_LAYERS
+from model_registry import ALL_BITS, HANDLE, LAST_ID, LAST_OLDER_ID, LEVELS, MOST_LAYERS
 from model_registry import Layer, Limits, Refusal, Registry, id_of_older
 
 # A script may have this many bytes and no more.
@@ -87,7 +87,7 @@ def keys_of(op, workers):
         return [(key, ANY_LIMIT, None) for key in ("slots", "last_generation", "max_count", "workers")]
     if op == "layer":
         rule = ("rule", pairs(text, LEVEL), [("", "TRACE")])
-        return [("form", one_of(["compact", "json"]), "compact"), ("spans", whole(0, 15), 15), rule]
+        return [("form", one_of(["compact", "json"]), "compact"), ("spans", whole(0, ALL_BITS), ALL_BITS), rule]
     if op == "new":
         parent = ("parent", span_or_root, CURRENT)
         return [("name", text, REQUIRED), *meta, parent, fields, ("label", text, None), worker]

@@ -25,6 +25,7 @@ LONGEST_NAME = 64
 # The bits of a layer's `spans`: of which happenings of a span it wants to be told. It is always told of records
 # and events.
 BITS = {"new": 1, "enter": 2, "exit": 4, "close": 8}
+ALL_BITS = sum(BITS.values())
 
 HANDLE = "a handle"
 

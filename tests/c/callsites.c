@@ -22,7 +22,7 @@ static const uint8_t *bytes(const char *text) {
 
 /* a compact layer that wants all kinds, for all targets up to INFO, and a JSON layer for targets below app::db */
 static uint32_t open_one(SpanRegistry *at, SpanDrain *end, SpanLimits limits) {
-    const SpanLayer layers[] = {{0, 15, 1}, {1, 15, 1}};
+    const SpanLayer layers[] = {{0, SPAN_KINDS_ALL, 1}, {1, SPAN_KINDS_ALL, 1}};
     const SpanRule rules[] = {{0, 2}, {7, 4}};
     return span_registry_new(at, end, &limits, layers, 2, rules, 2, bytes("app::db"), 7);
 }
@@ -373,7 +373,7 @@ static void test_many(void) {
 
 static void test_wants(void) {
     const SpanLimits limits = {16, 4294967295u, 4294967295u, 1, 64};
-    const SpanLayer layers[] = {{0, 15, 1}, {1, 9, 1}};
+    const SpanLayer layers[] = {{0, SPAN_KINDS_ALL, 1}, {1, SPAN_KIND_NEW | SPAN_KIND_CLOSE, 1}};
     const SpanRule rules[] = {{0, 2}, {7, 4}};
     const SpanMeta trace = {4, 1, 8}, debug = {3, 1, 3};
     uint32_t wanted = 9, deep = 9, other = 9;

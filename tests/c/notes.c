@@ -19,7 +19,7 @@ static const SpanField no_fields[1];
 /* two layers: the first sees all, the other what is told of the target `t` up to INFO, but for new spans and the like */
 static void open_both(uint32_t ring) {
     const SpanLimits limits = {16, 4294967295u, 4294967295u, 2, ring};
-    const SpanLayer layers[] = {{0, 15, 1}, {1, 0, 1}};
+    const SpanLayer layers[] = {{0, SPAN_KINDS_ALL, 1}, {1, 0, 1}};
     const SpanRule rules[] = {{0, 4}, {1, 2}};
     CHECK(span_registry_new(&registry, &drain, &limits, layers, 2, rules, 2, (const uint8_t *)"t", 1) == SPAN_OK);
 }

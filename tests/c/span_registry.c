@@ -23,7 +23,7 @@ static const uint8_t *bytes(const char *text) {
 
 /* a compact layer that wants all kinds, for all targets up to INFO, and a JSON layer for targets below app::db */
 static uint32_t open_usual(SpanLimits limits) {
-    const SpanLayer layers[] = {{0, 15, 1}, {1, 9, 1}};
+    const SpanLayer layers[] = {{0, SPAN_KINDS_ALL, 1}, {1, SPAN_KIND_NEW | SPAN_KIND_CLOSE, 1}};
     const SpanRule rules[] = {{0, 2}, {7, 4}};
     return span_registry_new(&registry, &drain, &limits, layers, 2, rules, 2, bytes("app::db"), 7);
 }
@@ -290,13 +290,13 @@ static uint32_t open_with(SpanLayer layer, SpanRule rule, const char *texts, siz
 }
 
 static void check_bad_data_of_registries(long allowed) {
-    const SpanLayer layer = {0, 15, 1};
+    const SpanLayer layer = {0, SPAN_KINDS_ALL, 1};
     const SpanRule rule = {1, 4};
     allocations_left = allowed;
-    CHECK(open_with((SpanLayer){2, 15, 1}, rule, "a", 1) == SPAN_BAD_DATA);
+    CHECK(open_with((SpanLayer){2, SPAN_KINDS_ALL, 1}, rule, "a", 1) == SPAN_BAD_DATA);
     CHECK(open_with((SpanLayer){0, 16, 1}, rule, "a", 1) == SPAN_BAD_DATA);
-    CHECK(open_with((SpanLayer){0, 15, 0}, rule, "a", 1) == SPAN_BAD_DATA);
-    CHECK(open_with((SpanLayer){0, 15, 2}, rule, "a", 1) == SPAN_BAD_DATA);
+    CHECK(open_with((SpanLayer){0, SPAN_KINDS_ALL, 0}, rule, "a", 1) == SPAN_BAD_DATA);
+    CHECK(open_with((SpanLayer){0, SPAN_KINDS_ALL, 2}, rule, "a", 1) == SPAN_BAD_DATA);
     CHECK(open_with(layer, (SpanRule){1, 5}, "a", 1) == SPAN_BAD_DATA);
     CHECK(open_with(layer, (SpanRule){2, 4}, "a", 1) == SPAN_BAD_DATA);
     CHECK(open_with(layer, rule, "ab", 2) == SPAN_BAD_DATA);

@@ -64,7 +64,7 @@ static int makes_and_closes(uint64_t wanted) {
  * 3 was never used */
 static int opens_with_a_past(void) {
     const SpanLimits limits = {4, 1, 9, 1, 64};
-    const SpanLayer layer = {0, 15, 1};
+    const SpanLayer layer = {0, SPAN_KINDS_ALL, 1};
     const SpanRule rule = {0, 4};
     uint64_t open = 0;
     uint32_t first = 0;

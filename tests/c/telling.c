@@ -170,7 +170,7 @@ static void check_levels(const SpanLayer *layers, size_t layers_len, const SpanR
 }
 
 static void test_max_level(void) {
-    const SpanLayer layers[] = {{0, 0, 2}, {1, 0, 0}, {0, 15, 1}};
+    const SpanLayer layers[] = {{0, 0, 2}, {1, 0, 0}, {0, SPAN_KINDS_ALL, 1}};
     const SpanRule rules[] = {{0, 1}, {0, 3}, {0, 0}};
     uint32_t levels = 9;
     CHECK(span_registry_max_level(&registry, &levels) == SPAN_EMPTY_HANDLE && levels == 9);
@@ -284,7 +284,7 @@ static void check_counts(uint64_t batches, uint64_t refused) {
 
 static void test_skip_batch(void) {
     const SpanLimits limits = {16, 4294967295u, 4294967295u, 2, 64};
-    const SpanLayer layers[] = {{0, 15, 1}, {1, 15, 1}};
+    const SpanLayer layers[] = {{0, SPAN_KINDS_ALL, 1}, {1, SPAN_KINDS_ALL, 1}};
     const SpanRule rules[] = {{0, 4}, {0, 4}};
     uint64_t id;
     uint32_t answer;

@@ -80,6 +80,9 @@ impl Kind {
     }
 }
 
+/// The `spans` of a layer that is told of each kind.
+pub const EVERY_KIND: u8 = 1 | 2 | 4 | 8;
+
 /// Pairs of a prefix of targets and the greatest level that it admits.
 pub type Rule = Vec<(Box<str>, Level)>;
 

@@ -1,6 +1,6 @@
 //! Loops of calls in one thread, as `workloads call-costs` makes them: on the registry alone, or on one behind a `Mutex`.
 use crate::field::{Field, Fields};
-use crate::layer::{Form, Level, Rule};
+use crate::layer::{Form, Level, Rule, EVERY_KIND};
 use crate::outlet::{Batch, Lines};
 use crate::registry::{Limits, Meta, ParentOf, Refusal, Registry};
 use crate::ring::{ring, Receiver};
@@ -50,7 +50,9 @@ fn opened(shape: &Shape) -> (Registry<Sending>, Receiver<Batch>, Lines) {
     let mut registry = Registry::new(limits, Sending { sender, calls: 0 });
     let mut lines = Lines::default();
     for _ in 0..shape.layers {
-        registry.layers.push(15, Rule::from([(Box::default(), Level::Trace)]));
+        registry
+            .layers
+            .push(EVERY_KIND, Rule::from([(Box::default(), Level::Trace)]));
         lines.forms.push(Form::Compact);
     }
     (registry, receiver, lines)

@@ -2,7 +2,7 @@
 use crate::field::{Field, Fields};
 use crate::id::Id;
 use crate::json::{self, Members, Value};
-use crate::layer::{Form, Layer, Level, Rule};
+use crate::layer::{Form, Layer, Level, Rule, EVERY_KIND};
 use crate::registry::Limits;
 use std::borrow::Cow;
 use std::fmt;
@@ -255,7 +255,7 @@ impl<'a> Keys<'a> {
         let all = || Rule::from([(Box::default(), Level::Trace)]);
         Ok(Layer {
             form: self.optional("form", form_of)?.unwrap_or(Form::Compact),
-            spans: self.whole("spans", 15)?.unwrap_or(15) as u8,
+            spans: self.whole("spans", EVERY_KIND.into())?.unwrap_or(EVERY_KIND.into()) as u8,
             rule: self.optional("rule", rule_of)?.unwrap_or_else(all),
         })
     }

@@ -1,6 +1,6 @@
 //! Workers in threads on one registry, and a thread that writes the lines.
 use crate::field::Fields;
-use crate::layer::{Form, Level, Rule};
+use crate::layer::{Form, Level, Rule, EVERY_KIND};
 use crate::outlet::{Batch, Lines, Outlet};
 use crate::registry::{Limits, Meta, ParentOf, Refusal, Registry};
 use crate::ring::{ring, Receiver, Sender};
@@ -128,7 +128,9 @@ pub fn storm(workers: u32, rounds: u32, layers: u32) -> Result<Report, Refusal> 
     };
     let mut registry = Registry::new(limits, Sending { sender, calls: 0 });
     for _ in 0..layers {
-        registry.layers.push(15, Rule::from([(Box::default(), Level::Trace)]));
+        registry
+            .layers
+            .push(EVERY_KIND, Rule::from([(Box::default(), Level::Trace)]));
     }
     let registry = Mutex::new(registry);
     let all_done = AtomicBool::new(false);
