@@ -3,6 +3,7 @@
 use crate::directives::Targets;
 use crate::drain::Drain;
 use crate::error::{Error, Limit};
+use crate::head::Reading;
 use crate::interest::Interest;
 use crate::level::{FmtSpan, Form, Level};
 use crate::lost::Losses;
@@ -52,7 +53,8 @@ impl Layer {
     }
 
     /// In JSON from which trees can be built: with parents, targets, levels, times and the kinds of values. See
-    /// [`Note`](crate::Note).
+    /// [`Note`](crate::Note). It takes the reader least where each layer of the registry has this form: beside others
+    /// its notes are read from lines of the JSON form.
     #[must_use]
     pub fn tree() -> Layer {
         Layer::new(Form::Tree)
@@ -245,6 +247,10 @@ impl RegistryBuilder {
     }
 }
 
+/// The forms of the C interface.
+const COMPACT: u32 = 0;
+const JSON: u32 = 1;
+
 /// What the parts of a registry are made of.
 struct Making<'a> {
     // Of each part.
@@ -290,14 +296,15 @@ struct PackedLayers {
 
 impl PackedLayers {
     fn of(layers: &[Layer]) -> Result<PackedLayers, Error> {
+        let reading = Reading::of(layers.iter().map(|layer| layer.form));
         let mut packed = PackedLayers::default();
         for layer in layers {
-            packed.push(layer)?;
+            packed.push(layer, reading)?;
         }
         Ok(packed)
     }
 
-    fn push(&mut self, layer: &Layer) -> Result<(), Error> {
+    fn push(&mut self, layer: &Layer, reading: Reading) -> Result<(), Error> {
         let before = self.rules.len();
         for (prefix, level) in layer.targets.pairs() {
             reserve(&mut self.texts, prefix.len())?;
@@ -311,11 +318,23 @@ impl PackedLayers {
         let rules = u32::try_from(self.rules.len() - before).map_err(|_| Error::BadData)?;
         reserve(&mut self.layers, 1)?;
         self.layers.push(SpanLayer {
-            form: layer.form.number(),
+            form: form_number(layer.form, reading),
             kinds: layer.kinds.bits(),
             rules,
         });
         Ok(())
+    }
+}
+
+// The form in which the proved registry writes the lines of a layer in this form.
+fn form_number(form: Form, reading: Reading) -> u32 {
+    match (form, reading) {
+        (Form::Compact, _) => COMPACT,
+        (Form::Json, _) => JSON,
+        // Nobody sees them, and these take the least.
+        (Form::Tree, Reading::Notes) => COMPACT,
+        // From these notes can be read.
+        (Form::Tree, _) => JSON,
     }
 }
 

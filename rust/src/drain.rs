@@ -2,13 +2,15 @@
 #![forbid(unsafe_code)]
 mod writing;
 
-use crate::head::Head;
+use crate::head::{Head, Reading};
 use crate::level::Form;
-use crate::note::{Note, Sources};
+use crate::note::Note;
+use crate::notes::{Book, Notes};
 use crate::part::Part;
 use crate::parts::Parts;
 use crate::state::State;
 use crate::workers;
+use std::sync::MutexGuard;
 
 /// A line that a layer was told.
 #[derive(Clone, Debug, PartialEq, Eq, Hash)]
@@ -70,8 +72,9 @@ pub struct Drain {
 
 impl Drain {
     pub(crate) fn of(parts: Parts, forms: Vec<Form>) -> Drain {
+        let reading = Reading::of(forms.iter().copied());
         Drain {
-            heads: parts.all().map(|_| Head::new()).collect(),
+            heads: parts.all().map(|_| Head::new(reading)).collect(),
             last: parts.all().map(|_| 0).collect(),
             parts,
             forms,
@@ -91,10 +94,9 @@ impl Drain {
 
     /// The next line; none where none is at hand now. It doesn't wait for one.
     pub fn line(&mut self) -> Option<Line> {
-        let (layer, length) = self.next_text(|_| true)?;
-        let head = &mut self.heads[self.at];
-        head.ready = None;
-        let text = text_of(head.bytes(length));
+        let (layer, length) = self.next_ready(|_| true)?;
+        let text = self.heads[self.at].text(self.part(self.at), length);
+        self.heads[self.at].ready = None;
         Some(Line { layer, text })
     }
 
@@ -105,8 +107,8 @@ impl Drain {
             self.next_ready(|_| true)?;
             let head = &mut self.heads[self.at];
             head.ready = None;
-            if let Some(note) = head.note.take() {
-                return Some(note);
+            if head.is_note {
+                return Some(head.told.note(self.parts.part(self.at as u32)));
             }
         }
     }
@@ -213,23 +215,6 @@ impl Drain {
         true
     }
 
-    // As `next_ready`, with its text in the buffer.
-    fn next_text(&mut self, goes_on: impl Fn(&Drain) -> bool) -> Option<(usize, usize)> {
-        let (layer, _) = self.next_ready(goes_on)?;
-        if self.heads[self.at].note.is_some() {
-            self.put_note(layer);
-        }
-        self.heads[self.at].ready
-    }
-
-    #[cold]
-    fn put_note(&mut self, layer: usize) {
-        let head = &mut self.heads[self.at];
-        if let Some(note) = head.note.take() {
-            head.put(layer, &note.to_string());
-        }
-    }
-
     // Whether something was owed or lost, and some of it was done or told now.
     #[inline(always)]
     fn settles(&self) -> bool {
@@ -253,36 +238,31 @@ fn least(heads: &[Head]) -> Option<(u64, usize)> {
     ready.map(|(at, head)| (head.stamp, at)).min()
 }
 
-// Puts the line in the buffer as it is told of the part.
-#[cold]
+// Makes the line what is told of the part: a note by what was kept of its call, a text by the part's numbers.
+#[inline(never)]
 fn told(part: &Part, forms: &[Form], head: &mut Head) {
-    head.note = noted(part, forms, head);
-    if part.place() > 0 && head.note.is_none() {
+    if let Some(notes) = part.ring().notes() {
+        let mut book = book_at(part, notes, head.batch);
+        book.keep_first();
+        head.complete(&book, part.common().interest(), forms);
+    }
+    if part.place() > 0 && !head.is_note {
         let form = head.ready.map(|(layer, _)| forms[layer]);
         head.put_part(form == Some(Form::Compact), part);
     }
 }
 
-// What the line in the buffer tells, where its layer asks for notes.
-fn noted(part: &Part, forms: &[Form], head: &Head) -> Option<Note> {
-    let ((layer, length), notes) = (head.ready?, part.ring().notes()?);
-    if !notes.book().goes_to(head.batch) {
+// The book, of which the call of this number is the first.
+fn book_at<'a>(part: &Part, notes: &'a Notes, number: u64) -> MutexGuard<'a, Book> {
+    let mut book = notes.book();
+    if !book.goes_to(number) {
+        drop(book);
         // The call still has the lock.
         part.with(|_| ());
-        notes.book().goes_to(head.batch);
+        book = notes.book();
+        book.goes_to(number);
     }
-    let mut book = notes.book();
-    book.keep_first();
-    let sources = Sources {
-        registry: part.common().number(),
-        part: part.place(),
-        first_worker: part.first_worker(),
-        layer,
-        interest: part.common().interest(),
-        book: &book,
-    };
-    let line = std::str::from_utf8(head.bytes(length)).ok()?;
-    (forms[layer] == Form::Tree).then(|| sources.note(line))?
+    book
 }
 
 // Whether something was owed or lost, and some of it was done or told now.
@@ -302,14 +282,6 @@ fn settles_now(part: &Part) -> bool {
     };
     // What spans carried that close now may call the registry where it is dropped, and mustn't wait for this reader.
     workers::writing(part.common(), || part.with(settle))
-}
-
-// Lines are UTF-8, and to look whether they are is quicker than to make them so.
-fn text_of(line: &[u8]) -> String {
-    match std::str::from_utf8(line) {
-        Ok(text) => text.to_owned(),
-        Err(_) => String::from_utf8_lossy(line).into_owned(),
-    }
 }
 
 /// From now on nobody reads.

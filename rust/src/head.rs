@@ -1,22 +1,56 @@
 //! The next line of a part, where its drain has read it.
 #![forbid(unsafe_code)]
+use crate::interest::Interest;
+use crate::json::parts;
+use crate::level::Form;
 use crate::meta::RawId;
-use crate::note::Note;
+use crate::note::NoteKind;
+use crate::notes::Book;
 use crate::part::Part;
-use crate::raw::Next;
+use crate::raw::{Lines, Next};
+use crate::said::text_of;
+use crate::told::Told;
 use std::io::Write;
 use std::ops::Range;
 
 /// The digits of the greatest id.
 const LONGEST: usize = 20;
 
+/// How the lines of a registry are read.
+#[derive(Clone, Copy, Debug, PartialEq, Eq)]
+pub(crate) enum Reading {
+    /// As texts: no layer has the form of trees.
+    Texts,
+    /// As notes: each layer has that form.
+    Notes,
+    /// As texts, from which the notes of those layers that have that form are read again: which layer the next line is
+    /// of, the library tells only with it.
+    Both,
+}
+
+impl Reading {
+    /// Of layers in these forms.
+    pub(crate) fn of(forms: impl Iterator<Item = Form> + Clone) -> Reading {
+        let is_tree = |form: Form| form == Form::Tree;
+        match (forms.clone().any(is_tree), forms.clone().all(is_tree)) {
+            (false, _) => Reading::Texts,
+            (true, true) => Reading::Notes,
+            (true, false) => Reading::Both,
+        }
+    }
+}
+
 pub(crate) struct Head {
+    reading: Reading,
     // A line's bytes stand at its beginning, and it has room for a newline.
     buffer: Vec<u8>,
-    /// The layer and length of a line that is in the buffer and wasn't handed out.
+    /// The layer and length of a line that is in the buffer and wasn't handed out; the length of a note's isn't known.
     pub(crate) ready: Option<(usize, usize)>,
-    /// What that line tells, where its layer has the form of trees; the buffer hasn't its text then.
-    pub(crate) note: Option<Note>,
+    /// Whether that is a note, which is here.
+    pub(crate) is_note: bool,
+    pub(crate) told: Told,
+    // Where a note's line is written.
+    text: Vec<u8>,
     /// The number of its batch in the part.
     pub(crate) batch: u64,
     /// The stamp of its batch, where lines are merged.
@@ -28,11 +62,14 @@ pub(crate) struct Head {
 }
 
 impl Head {
-    pub(crate) fn new() -> Head {
+    pub(crate) fn new(reading: Reading) -> Head {
         Head {
+            reading,
             buffer: vec![0; 256],
             ready: None,
-            note: None,
+            is_note: false,
+            told: Told::new(),
+            text: Vec::new(),
             batch: 0,
             stamp: 0,
             bound: 0,
@@ -52,14 +89,12 @@ impl Head {
         }
         let is_numbered = stamps.is_some() || part.ring().notes().is_some();
         loop {
-            let room = self.buffer.len() - 1;
             let next = {
                 let mut lines = part.ring().lines();
-                let next = lines.next(&mut self.buffer[..room]);
-                if is_numbered {
-                    self.batch = lines.counts().0;
+                let next = self.next(&mut lines, is_numbered);
+                if let Some(stamps) = stamps {
                     // While no other thread takes a batch out.
-                    self.stamp = stamps.map_or(0, |stamps| stamps.of(self.batch));
+                    self.stamp = stamps.of(self.batch);
                 }
                 next
             };
@@ -79,26 +114,77 @@ impl Head {
         }
     }
 
-    /// So many bytes of the buffer.
-    pub(crate) fn bytes(&self, length: usize) -> &[u8] {
-        &self.buffer[..length]
+    #[inline(always)]
+    fn next(&mut self, lines: &mut Lines, is_numbered: bool) -> Next {
+        if self.reading == Reading::Notes {
+            return self.next_note(lines);
+        }
+        let room = self.buffer.len() - 1;
+        let next = lines.next(&mut self.buffer[..room]);
+        if is_numbered {
+            self.batch = lines.counts().0;
+        }
+        next
     }
 
-    /// The same, with a newline behind them.
-    pub(crate) fn with_newline(&mut self, length: usize) -> &[u8] {
+    #[inline(never)]
+    fn next_note(&mut self, lines: &mut Lines) -> Next {
+        self.is_note = self.told.said.read(lines);
+        if !self.is_note {
+            return Next::None;
+        }
+        let note = self.told.said.note();
+        self.batch = note.batch + 1;
+        debug_assert_eq!(self.batch, lines.counts().0);
+        Next::Line {
+            layer: note.layer,
+            length: 0,
+        }
+    }
+
+    /// Puts what is kept of the line's call to what it tells, where its layer has the form of trees.
+    pub(crate) fn complete(&mut self, book: &Book, interest: &Interest, forms: &[Form]) {
+        if self.reading == Reading::Both {
+            self.is_note = self.read_again(forms).is_some();
+        }
+        if self.is_note {
+            self.told.complete(book, interest);
+        }
+    }
+
+    // Reads the note from the line in the buffer. None where it is of another layer.
+    fn read_again(&mut self, forms: &[Form]) -> Option<()> {
+        let (layer, length) = self.ready.filter(|&(layer, _)| forms[layer] == Form::Tree)?;
+        let line = parts(std::str::from_utf8(&self.buffer[..length]).ok()?)?;
+        self.told.said.put(layer, NoteKind::of_name(line.kind)?, &line);
+        Some(())
+    }
+
+    /// The line, of so many bytes, that is ready.
+    pub(crate) fn text(&self, part: &Part, length: usize) -> String {
+        if self.is_note {
+            self.told.text(part)
+        } else {
+            text_of(&self.buffer[..length])
+        }
+    }
+
+    /// The same, with a newline behind it.
+    #[inline(always)]
+    pub(crate) fn with_newline(&mut self, part: &Part, length: usize) -> &[u8] {
+        if self.is_note {
+            return self.note_with_newline(part);
+        }
         self.buffer[length] = b'\n';
         &self.buffer[..=length]
     }
 
-    /// Puts a text in place of the line.
-    pub(crate) fn put(&mut self, layer: usize, text: &str) {
-        self.make_room(text.len());
-        self.buffer[..text.len()].copy_from_slice(text.as_bytes());
-        self.ready = Some((layer, text.len()));
-    }
-
-    fn make_room(&mut self, length: usize) {
-        self.buffer.resize(self.buffer.len().max(length + 1), 0);
+    #[inline(never)]
+    fn note_with_newline(&mut self, part: &Part) -> &[u8] {
+        self.text.clear();
+        self.told.write(part, &mut self.text);
+        self.text.push(b'\n');
+        &self.text
     }
 
     /// Puts the numbers in the line that its part has of its own, an id and a worker, as the registry knows them.
@@ -129,7 +215,7 @@ impl Head {
         let _written = write!(rest, "{}", number(old));
         let count = LONGEST - rest.len();
         let (end, behind) = (length - place.len() + count, place.start + count);
-        self.make_room(end);
+        self.buffer.resize(self.buffer.len().max(end + 1), 0);
         self.buffer.copy_within(place.end..length, behind);
         self.buffer[place.start..behind].copy_from_slice(&digits[..count]);
         end
@@ -169,15 +255,34 @@ fn digits_from(line: &[u8], start: usize) -> Option<Range<usize>> {
 
 #[cfg(test)]
 mod tests {
-    use super::Head;
+    use super::{Head, Reading};
+    use crate::level::Form;
 
     fn with_part(is_compact: bool, line: &str, part: u32, first_worker: u32) -> String {
-        let mut head = Head::new();
-        head.put(0, line);
+        let mut head = Head::new(Reading::Texts);
+        head.buffer = line.as_bytes().to_vec();
+        // The room for a newline.
+        head.buffer.push(0);
+        head.ready = Some((0, line.len()));
         head.number(is_compact, part, first_worker);
         let (_, length) = head.ready.expect("put");
-        assert_eq!(head.with_newline(length).last(), Some(&b'\n'));
-        String::from_utf8(head.bytes(length).to_vec()).expect("texts")
+        assert!(head.buffer.len() > length);
+        String::from_utf8(head.buffer[..length].to_vec()).expect("texts")
+    }
+
+    #[test]
+    fn lines_are_read_as_notes_where_all_are() {
+        let table: [(&[Form], Reading); 6] = [
+            (&[], Reading::Texts),
+            (&[Form::Json, Form::Compact], Reading::Texts),
+            (&[Form::Tree], Reading::Notes),
+            (&[Form::Tree, Form::Tree], Reading::Notes),
+            (&[Form::Tree, Form::Json], Reading::Both),
+            (&[Form::Compact, Form::Tree], Reading::Both),
+        ];
+        for (forms, wanted) in table {
+            assert_eq!(Reading::of(forms.iter().copied()), wanted);
+        }
     }
 
     #[test]

@@ -1,6 +1,7 @@
-//! The library's JSON lines, taken apart, and JSON texts.
+//! JSON: texts, numbers and values as it writes them, and the library's lines taken apart.
 #![forbid(unsafe_code)]
-use std::fmt::{self, Write};
+use crate::kind::Kind;
+use crate::level::Level;
 
 /// A line's parts. Its strings are as they stand there, without their quotes.
 #[derive(Clone, Debug, Default, PartialEq, Eq)]
@@ -8,7 +9,7 @@ pub(crate) struct Parts<'a> {
     pub(crate) fields: Vec<(&'a str, &'a str)>,
     pub(crate) id: u64,
     pub(crate) kind: &'a str,
-    pub(crate) level: Option<&'a str>,
+    pub(crate) level: Option<Level>,
     pub(crate) message: Option<&'a str>,
     pub(crate) path: &'a str,
     pub(crate) worker: u32,
@@ -31,7 +32,8 @@ pub(crate) fn parts(line: &str) -> Option<Parts<'_>> {
     skip(&mut rest, ",\"kind\":")?;
     parts.kind = string(&mut rest)?;
     if skip(&mut rest, ",\"level\":").is_some() {
-        parts.level = Some(string(&mut rest)?);
+        let name = string(&mut rest)?;
+        parts.level = Level::ALL.into_iter().find(|level| level.name() == name);
         skip(&mut rest, ",\"message\":")?;
         parts.message = Some(string(&mut rest)?);
     }
@@ -68,18 +70,20 @@ fn string<'a>(rest: &mut &'a str) -> Option<&'a str> {
     Some(text)
 }
 
-/// The text of a string that stands in a line. An escape that JSON hasn't stays as it is.
-pub(crate) fn unescaped(string: &str) -> String {
-    let mut text = String::with_capacity(string.len());
+/// Puts the text of a string that stands in a line behind others, and tells its length. An escape that JSON hasn't stays
+/// as it is.
+pub(crate) fn unescape(string: &str, texts: &mut Vec<u8>) -> usize {
+    let begin = texts.len();
     let mut rest = string;
     while let Some((before, behind)) = rest.split_once('\\') {
-        text.push_str(before);
+        texts.extend_from_slice(before.as_bytes());
         let (letter, length) = escape(behind);
-        text.push(letter.unwrap_or('\\'));
+        let letter = letter.unwrap_or('\\');
+        texts.extend_from_slice(letter.encode_utf8(&mut [0; 4]).as_bytes());
         rest = &behind[length..];
     }
-    text.push_str(rest);
-    text
+    texts.extend_from_slice(rest.as_bytes());
+    texts.len() - begin
 }
 
 // What the escape that begins with these bytes stands for, and how many they are. The library escapes only control
@@ -102,30 +106,149 @@ fn escape(text: &str) -> (Option<char>, usize) {
     (Some(letter), 1)
 }
 
-/// A text as a JSON string, with its quotes.
-pub(crate) struct Quoted<'a>(pub(crate) &'a str);
+/// Whether a byte of a text doesn't stand in a JSON string as it is.
+fn is_escaped(byte: u8) -> bool {
+    byte < b' ' || byte == b'"' || byte == b'\\'
+}
 
-impl fmt::Display for Quoted<'_> {
-    fn fmt(&self, f: &mut fmt::Formatter<'_>) -> fmt::Result {
-        f.write_char('"')?;
-        for letter in self.0.chars() {
-            match letter {
-                '"' => f.write_str("\\\"")?,
-                '\\' => f.write_str("\\\\")?,
-                '\n' => f.write_str("\\n")?,
-                '\r' => f.write_str("\\r")?,
-                '\t' => f.write_str("\\t")?,
-                control if u32::from(control) < 0x20 => write!(f, "\\u{:04x}", u32::from(control))?,
-                letter => f.write_char(letter)?,
-            }
+/// Whether none is, of a text.
+fn is_plain(text: &[u8]) -> bool {
+    // So many are looked at together.
+    const CHUNK: usize = 8;
+    let are_plain = |bytes: &[u8]| !bytes.iter().fold(false, |found, &byte| found | is_escaped(byte));
+    text.chunks_exact(CHUNK).all(are_plain)
+        && match text.last_chunk::<CHUNK>() {
+            // Some of these were looked at before.
+            Some(last) => are_plain(last),
+            None => !text.iter().any(|&byte| is_escaped(byte)),
         }
-        f.write_char('"')
+}
+
+/// Puts a text behind others as it stands in a JSON string.
+pub(crate) fn put_escaped(text: &[u8], out: &mut Vec<u8>) {
+    if is_plain(text) {
+        return out.extend_from_slice(text);
     }
+    for part in text.split_inclusive(|&byte| is_escaped(byte)) {
+        match part.split_last() {
+            Some((&byte, before)) if is_escaped(byte) => {
+                out.extend_from_slice(before);
+                put_escape(byte, out);
+            }
+            _ => out.extend_from_slice(part),
+        }
+    }
+}
+
+fn put_escape(byte: u8, out: &mut Vec<u8>) {
+    let letter = match byte {
+        b'\n' => b'n',
+        b'\r' => b'r',
+        b'\t' => b't',
+        b'"' | b'\\' => byte,
+        control => {
+            // It takes two digits.
+            let digit = |number: u8| b"0123456789abcdef"[usize::from(number & 15)];
+            out.extend_from_slice(&[b'\\', b'u', b'0', b'0', digit(control >> 4), digit(control)]);
+            return;
+        }
+    };
+    out.extend_from_slice(&[b'\\', letter]);
+}
+
+/// The digits of the numbers below 100.
+const PAIRS: [[u8; 2]; 100] = {
+    let mut pairs = [[0; 2]; 100];
+    let mut number = 0;
+    while number < 100 {
+        pairs[number] = [b'0' + number as u8 / 10, b'0' + number as u8 % 10];
+        number += 1;
+    }
+    pairs
+};
+
+/// Puts a number behind others, in decimal.
+pub(crate) fn put_number(mut number: u64, out: &mut Vec<u8>) {
+    if number < 10 {
+        return out.push(b'0' + number as u8);
+    }
+    let mut digits = [0; 20];
+    let mut begin = digits.len();
+    while number >= 10 {
+        begin -= 2;
+        digits[begin..begin + 2].copy_from_slice(&PAIRS[(number % 100) as usize]);
+        number /= 100;
+    }
+    // One digit is left, or none.
+    if number > 0 {
+        begin -= 1;
+        digits[begin] = b'0' + number as u8;
+    }
+    out.extend_from_slice(&digits[begin..]);
+}
+
+/// Puts a value of this kind behind others: a number that JSON hasn't as a string.
+pub(crate) fn put_value(kind: Kind, value: &[u8], out: &mut Vec<u8>) {
+    let stands = match kind {
+        Kind::Text => false,
+        Kind::Integer => is_integer(value),
+        Kind::Float => is_decimal(value),
+        Kind::Bool => matches!(value, b"true" | b"false"),
+    };
+    if !stands {
+        out.push(b'"');
+        put_escaped(value, out);
+        return out.push(b'"');
+    }
+    out.extend_from_slice(value);
+    if kind == Kind::Float && !value.contains(&b'.') {
+        out.extend_from_slice(b".0");
+    }
+}
+
+fn is_integer(value: &[u8]) -> bool {
+    match value.strip_prefix(b"-").unwrap_or(value) {
+        [b'0'] => true,
+        [b'1'..=b'9', rest @ ..] => rest.iter().all(u8::is_ascii_digit),
+        _ => false,
+    }
+}
+
+// As the standard library writes finite numbers, with a fraction or without.
+fn is_decimal(value: &[u8]) -> bool {
+    let mut parts = value.splitn(2, |&byte| byte == b'.');
+    let whole = parts.next().is_some_and(is_integer);
+    whole
+        && parts
+            .next()
+            .is_none_or(|fraction| !fraction.is_empty() && fraction.iter().all(u8::is_ascii_digit))
 }
 
 #[cfg(test)]
 mod tests {
-    use super::{parts, unescaped, Parts, Quoted};
+    use super::{parts, put_escaped, put_number, put_value, unescape, Parts};
+    use crate::kind::Kind;
+    use crate::level::Level;
+
+    fn text_of(put: impl FnOnce(&mut Vec<u8>)) -> String {
+        // Nothing that stands there is touched.
+        let mut out = b"before".to_vec();
+        put(&mut out);
+        let text = String::from_utf8(out).expect("texts");
+        text.strip_prefix("before").expect("it stands there").to_owned()
+    }
+
+    fn quoted(text: &str) -> String {
+        format!("\"{}\"", text_of(|out| put_escaped(text.as_bytes(), out)))
+    }
+
+    fn unescaped(string: &str) -> String {
+        text_of(|out| {
+            let before = out.len();
+            let length = unescape(string, out);
+            assert_eq!(length, out.len() - before);
+        })
+    }
 
     #[test]
     fn a_line_is_taken_apart() {
@@ -141,7 +264,7 @@ mod tests {
         assert_eq!(parts(line), Some(wanted));
         let line = r#"{"fields":[],"id":0,"kind":"event","level":"WARN","message":"m","path":"-","worker":0}"#;
         let told = parts(line).expect("a line");
-        assert_eq!((told.level, told.message), (Some("WARN"), Some("m")));
+        assert_eq!((told.level, told.message), (Some(Level::Warn), Some("m")));
         for bad in [
             "",
             "{",
@@ -163,10 +286,80 @@ mod tests {
             "\u{e9}\u{1f600}",
             "\\u0041",
         ] {
-            let quoted = Quoted(text).to_string();
+            let quoted = quoted(text);
             assert_eq!(unescaped(&quoted[1..quoted.len() - 1]), text, "{quoted}");
         }
         assert_eq!(unescaped(r"a\u001fb\/\b\f"), "a\u{1f}b/\u{8}\u{c}");
         assert_eq!(unescaped(r"\x \u12 \"), r"\x \u12 \");
+    }
+
+    #[test]
+    fn each_byte_is_escaped_or_not_wherever_it_stands() {
+        for byte in 0..=0x7f_u8 {
+            let letter = char::from(byte);
+            let escaped = match letter {
+                '"' => "\\\"".to_owned(),
+                '\\' => "\\\\".to_owned(),
+                '\n' => "\\n".to_owned(),
+                '\r' => "\\r".to_owned(),
+                '\t' => "\\t".to_owned(),
+                control if byte < 0x20 => format!("\\u{:04x}", u32::from(control)),
+                letter => letter.to_string(),
+            };
+            for (before, behind) in [(0, 0), (1, 0), (15, 1), (16, 15), (17, 40), (31, 0), (32, 16)] {
+                let (before, behind) = ("x".repeat(before), "\u{e9}".repeat(behind));
+                let text = format!("{before}{letter}{behind}{letter}");
+                assert_eq!(quoted(&text), format!("\"{before}{escaped}{behind}{escaped}\""));
+            }
+        }
+    }
+
+    #[test]
+    fn numbers_have_their_digits() {
+        for number in [0, 1, 9, 10, 1_000_000, u64::MAX - 1, u64::MAX] {
+            assert_eq!(text_of(|out| put_number(number, out)), number.to_string());
+        }
+    }
+
+    #[test]
+    fn values_are_json_of_their_kinds() {
+        let least = f64::MIN_POSITIVE.to_string();
+        let table = [
+            (Kind::Text, "1", "\"1\""),
+            (Kind::Text, "true", "\"true\""),
+            (Kind::Integer, "0", "0"),
+            (Kind::Integer, "-7", "-7"),
+            (
+                Kind::Integer,
+                &i128::MIN.to_string(),
+                "-170141183460469231731687303715884105728",
+            ),
+            (
+                Kind::Integer,
+                &u128::MAX.to_string(),
+                "340282366920938463463374607431768211455",
+            ),
+            (Kind::Integer, "x", "\"x\""),
+            (Kind::Integer, "", "\"\""),
+            (Kind::Integer, "-", "\"-\""),
+            (Kind::Integer, "+7", "\"+7\""),
+            (Kind::Integer, "07", "\"07\""),
+            (Kind::Float, "1", "1.0"),
+            (Kind::Float, "-0", "-0.0"),
+            (Kind::Float, "0.1", "0.1"),
+            (Kind::Float, &least, &least),
+            (Kind::Float, "NaN", "\"NaN\""),
+            (Kind::Float, "-inf", "\"-inf\""),
+            (Kind::Float, "1.", "\"1.\""),
+            (Kind::Float, ".5", "\".5\""),
+            (Kind::Float, "1e16", "\"1e16\""),
+            (Kind::Float, "1.5.2", "\"1.5.2\""),
+            (Kind::Bool, "true", "true"),
+            (Kind::Bool, "false", "false"),
+            (Kind::Bool, "\"", "\"\\\"\""),
+        ];
+        for (kind, value, wanted) in table {
+            assert_eq!(text_of(|out| put_value(kind, value.as_bytes(), out)), wanted);
+        }
     }
 }

@@ -146,16 +146,7 @@ pub enum Form {
     Compact,
     /// One JSON object: `fields`, `id`, `kind`, `path` and `worker`, for an event also `level` and `message`.
     Json,
-    /// One JSON object from which trees can be built: the text of a [`Note`](crate::Note). It is made of the proved
-    /// line of the JSON form, and of what this crate keeps of each call until its lines are read.
+    /// One JSON object from which trees can be built: the text of a [`Note`](crate::Note). It is made of what the proved
+    /// registry tells of the note, and of what this crate keeps of each call until its lines are read.
     Tree,
-}
-
-impl Form {
-    pub(crate) fn number(self) -> u32 {
-        match self {
-            Form::Compact => 0,
-            Form::Json | Form::Tree => 1,
-        }
-    }
 }

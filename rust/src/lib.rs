@@ -44,11 +44,13 @@ mod refusal;
 mod registry;
 mod ring;
 mod routing;
+mod said;
 mod seats;
 mod site;
 mod span;
 mod stamps;
 mod state;
+mod told;
 mod workers;
 mod writer;
 

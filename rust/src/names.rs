@@ -20,8 +20,8 @@ pub(crate) const NO_NAME: &Meta<'_> = &Meta::new(Level::Trace, "", "");
 
 /// Whether it begins as one that is written otherwise than it stands.
 #[inline]
-pub(crate) fn is_marked(text: &str) -> bool {
-    text.as_bytes().starts_with(MARK.as_bytes())
+pub(crate) fn is_marked(text: impl AsRef<[u8]>) -> bool {
+    text.as_ref().starts_with(MARK.as_bytes())
 }
 
 /// Whether this name or one of these keys does.
@@ -185,7 +185,7 @@ mod tests {
             };
             assert!(is_name(&name) && name.len() <= LONGEST, "{text:?}");
             assert_eq!(read(&name), text);
-            assert!(*name == *text || is_marked(&name));
+            assert!(*name == *text || is_marked(&*name));
         }
         assert!((1..10_000).contains(&long));
     }

@@ -1,13 +1,12 @@
 //! Lines from which a tree can be built.
 #![forbid(unsafe_code)]
-use crate::interest::Interest;
-use crate::json::{parts, unescaped, Parts, Quoted};
+use crate::json::{put_escaped, put_number, put_value};
 use crate::kind::Kind;
 use crate::level::Level;
-use crate::meta::{Id, RawId};
-use crate::names::read;
-use crate::notes::Book;
+use crate::meta::Id;
+use std::borrow::Cow;
 use std::fmt;
+use std::io::Write;
 use std::time::Duration;
 
 /// What a line tells.
@@ -23,14 +22,28 @@ pub enum NoteKind {
 }
 
 impl NoteKind {
+    // By their numbers in the C interface.
     const ALL: [NoteKind; 6] = [
         NoteKind::New,
-        NoteKind::Enter,
-        NoteKind::Exit,
         NoteKind::Record,
         NoteKind::Event,
+        NoteKind::Enter,
+        NoteKind::Exit,
         NoteKind::Close,
     ];
+
+    /// That of a number: there is no other than these.
+    pub(crate) fn of_number(number: u32) -> NoteKind {
+        NoteKind::ALL.get(number as usize).copied().unwrap_or(NoteKind::Close)
+    }
+
+    /// That of a name, and its number.
+    pub(crate) fn of_name(name: &str) -> Option<u32> {
+        (0..)
+            .zip(NoteKind::ALL)
+            .find(|(_, kind)| kind.name() == name)
+            .map(|(number, _)| number)
+    }
 
     /// Its name in lines.
     #[must_use]
@@ -56,6 +69,12 @@ pub struct NoteField {
     pub kind: Kind,
     /// The value's text.
     pub value: String,
+}
+
+impl NoteField {
+    fn parts(&self) -> (Cow<'_, [u8]>, Kind, &[u8]) {
+        (Cow::Borrowed(self.key.as_bytes()), self.kind, self.value.as_bytes())
+    }
 }
 
 /// What a layer in the form of trees was told: see [`Drain::note`](crate::Drain::note).
@@ -94,158 +113,83 @@ pub struct Note {
     pub fields: Vec<NoteField>,
 }
 
-/// What a note is made of.
-pub(crate) struct Sources<'a> {
-    pub(crate) registry: u64,
-    /// The one that the line is of.
-    pub(crate) part: u32,
-    pub(crate) first_worker: u32,
-    pub(crate) layer: usize,
-    pub(crate) interest: &'a Interest,
-    pub(crate) book: &'a Book,
+/// A note's text, of its parts but for the fields.
+pub(crate) struct Text<'a> {
+    pub(crate) at: u128,
+    pub(crate) id: u64,
+    pub(crate) kind: NoteKind,
+    pub(crate) level: Level,
+    pub(crate) message: Option<&'a [u8]>,
+    pub(crate) name: &'a [u8],
+    pub(crate) parent: u64,
+    pub(crate) path: &'a [u8],
+    pub(crate) target: &'a [u8],
+    pub(crate) worker: u32,
 }
 
-impl Sources<'_> {
-    /// What the line of the first call in the book tells. None where it is no line of the library's JSON form.
-    pub(crate) fn note(&self, line: &str) -> Option<Note> {
-        let parts = parts(line)?;
-        let kind = NoteKind::ALL.into_iter().find(|kind| kind.name() == parts.kind)?;
-        let id = RawId::from_u64(parts.id);
-        let (at, event) = self.book.first();
-        let told = id.and_then(|id| self.book.span(id));
-        let is_event = kind == NoteKind::Event;
-        let known = if is_event { event } else { told.map(|told| &told.known) };
-        let above = if is_event {
-            id
-        } else {
-            told.and_then(|told| told.parent)
-        };
-        let of_its_call = if kind == NoteKind::Record {
-            self.book.recorded()
-        } else {
-            known.map_or(&[][..], |known| &known.kinds)
-        };
-        Some(Note {
-            layer: self.layer,
-            kind,
-            at: Duration::from_nanos(at),
-            worker: self.first_worker + parts.worker,
-            id: id.filter(|_| !is_event).map(|id| Id::of(self.registry, self.part, id)),
-            parent: self.admitted(above).map(|id| Id::of(self.registry, self.part, id)),
-            level: known.map_or(Level::Trace, |known| known.level),
-            target: known.map_or_else(String::new, |known| known.target.clone()),
-            name: known.map_or_else(String::new, |known| known.name.clone()),
-            path: unescaped(parts.path),
-            message: parts.message.map(unescaped),
-            fields: fields(&parts, of_its_call),
-        })
-    }
-
-    // The nearest of this one and those above it that the layer admits.
-    fn admitted(&self, mut above: Option<RawId>) -> Option<RawId> {
-        while let Some(told) = above.and_then(|id| self.book.span(id)) {
-            if self
-                .interest
-                .layer_admits(self.layer, told.known.level, &told.known.target)
-            {
-                return above;
-            }
-            above = told.parent;
+impl Text<'_> {
+    /// Puts it behind others, with the keys, kinds and values of the fields.
+    pub(crate) fn write<'f>(&self, fields: impl Iterator<Item = (Cow<'f, [u8]>, Kind, &'f [u8])>, out: &mut Vec<u8>) {
+        out.extend_from_slice(b"{\"at\":");
+        put_time(self.at, out);
+        out.extend_from_slice(b",\"fields\":[");
+        for (place, (key, kind, value)) in fields.enumerate() {
+            out.extend_from_slice(if place == 0 { b"[\"" } else { b",[\"" });
+            put_escaped(&key, out);
+            out.extend_from_slice(b"\",");
+            put_value(kind, value, out);
+            out.push(b']');
         }
-        None
+        out.extend_from_slice(b"],\"id\":");
+        put_number(self.id, out);
+        out.extend_from_slice(b",\"kind\":\"");
+        out.extend_from_slice(self.kind.name().as_bytes());
+        out.extend_from_slice(b"\",\"level\":\"");
+        out.extend_from_slice(self.level.name().as_bytes());
+        if let Some(message) = self.message {
+            out.extend_from_slice(b"\",\"message\":\"");
+            put_escaped(message, out);
+        }
+        out.extend_from_slice(b"\",\"name\":\"");
+        put_escaped(self.name, out);
+        out.extend_from_slice(b"\",\"parent\":");
+        put_number(self.parent, out);
+        out.extend_from_slice(b",\"path\":\"");
+        put_escaped(self.path, out);
+        out.extend_from_slice(b"\",\"target\":\"");
+        put_escaped(self.target, out);
+        out.extend_from_slice(b"\",\"worker\":");
+        put_number(u64::from(self.worker), out);
+        out.push(b'}');
     }
 }
 
-fn fields(parts: &Parts<'_>, kinds: &[Kind]) -> Vec<NoteField> {
-    let kinds = kinds.iter().copied().chain(std::iter::repeat(Kind::Text));
-    let field = |(&(key, value), kind): (&(&str, &str), Kind)| NoteField {
-        key: read(&unescaped(key)).into_owned(),
-        kind,
-        value: unescaped(value),
-    };
-    parts.fields.iter().zip(kinds).map(field).collect()
-}
-
-impl NoteField {
-    // As JSON; a number that JSON hasn't, as a string.
-    fn write(&self, f: &mut fmt::Formatter<'_>) -> fmt::Result {
-        let value = &*self.value;
-        match self.kind {
-            Kind::Bool if ["true", "false"].contains(&value) => f.write_str(value),
-            Kind::Integer if value.parse::<i128>().is_ok() || value.parse::<u128>().is_ok() => f.write_str(value),
-            Kind::Float if value.parse().is_ok_and(f64::is_finite) => {
-                let fraction = if value.contains('.') { "" } else { ".0" };
-                write!(f, "{value}{fraction}")
-            }
-            _ => write!(f, "{}", Quoted(value)),
-        }
+// In nanoseconds. A program may have put any time there.
+fn put_time(at: u128, out: &mut Vec<u8>) {
+    match u64::try_from(at) {
+        Ok(at) => put_number(at, out),
+        // It has room.
+        Err(_) => drop(write!(out, "{at}")),
     }
 }
 
 impl fmt::Display for Note {
     fn fmt(&self, f: &mut fmt::Formatter<'_>) -> fmt::Result {
-        write!(f, "{{\"at\":{},\"fields\":[", self.at.as_nanos())?;
-        for (place, field) in self.fields.iter().enumerate() {
-            write!(f, "{}[{},", if place == 0 { "" } else { "," }, Quoted(&field.key))?;
-            field.write(f)?;
-            f.write_str("]")?;
-        }
         let number = |id: Option<Id>| id.map_or(0, Id::into_u64);
-        write!(f, "],\"id\":{},\"kind\":\"{}\"", number(self.id), self.kind.name())?;
-        write!(f, ",\"level\":\"{}\"", self.level)?;
-        if let Some(message) = &self.message {
-            write!(f, ",\"message\":{}", Quoted(message))?;
-        }
-        write!(f, ",\"name\":{},\"parent\":{}", Quoted(&self.name), number(self.parent))?;
-        write!(
-            f,
-            ",\"path\":{},\"target\":{}",
-            Quoted(&self.path),
-            Quoted(&self.target)
-        )?;
-        write!(f, ",\"worker\":{}}}", self.worker)
-    }
-}
-
-#[cfg(test)]
-mod tests {
-    use super::NoteField;
-    use crate::kind::Kind;
-    use std::fmt;
-
-    struct Written(NoteField);
-
-    impl fmt::Display for Written {
-        fn fmt(&self, f: &mut fmt::Formatter<'_>) -> fmt::Result {
-            self.0.write(f)
-        }
-    }
-
-    fn written(kind: Kind, value: &str) -> String {
-        let (key, value) = (String::new(), value.to_owned());
-        Written(NoteField { key, kind, value }).to_string()
-    }
-
-    #[test]
-    fn values_are_json_of_their_kinds() {
-        let table = [
-            (Kind::Text, "1", "\"1\""),
-            (Kind::Integer, "-7", "-7"),
-            (
-                Kind::Integer,
-                "340282366920938463463374607431768211455",
-                "340282366920938463463374607431768211455",
-            ),
-            (Kind::Integer, "x", "\"x\""),
-            (Kind::Float, "1", "1.0"),
-            (Kind::Float, "0.1", "0.1"),
-            (Kind::Float, "NaN", "\"NaN\""),
-            (Kind::Float, "-inf", "\"-inf\""),
-            (Kind::Bool, "true", "true"),
-            (Kind::Bool, "\"", "\"\\\"\""),
-        ];
-        for (kind, value, wanted) in table {
-            assert_eq!(written(kind, value), wanted);
-        }
+        let parts = Text {
+            at: self.at.as_nanos(),
+            id: number(self.id),
+            kind: self.kind,
+            level: self.level,
+            message: self.message.as_deref().map(str::as_bytes),
+            name: self.name.as_bytes(),
+            parent: number(self.parent),
+            path: self.path.as_bytes(),
+            target: self.target.as_bytes(),
+            worker: self.worker,
+        };
+        let mut text = Vec::new();
+        parts.write(self.fields.iter().map(NoteField::parts), &mut text);
+        f.write_str(std::str::from_utf8(&text).map_err(|_| fmt::Error)?)
     }
 }

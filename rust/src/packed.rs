@@ -34,23 +34,42 @@ pub(crate) struct Texts<'a> {
     pub(crate) bytes: &'a [u8],
 }
 
+impl<'a> Texts<'a> {
+    // A text with no fields behind it stands as it is.
+    #[inline(always)]
+    fn of_one(text: &'a str) -> Texts<'a> {
+        Texts {
+            fields: &[],
+            bytes: text.as_bytes(),
+        }
+    }
+}
+
 thread_local! {
     // The memory of the last call whose texts were long.
     static LONG: Cell<Packed> = Cell::default();
 }
 
 /// Makes a call with `first` and the keys and values, packed before it: so that is done under no lock. Where they are few
-/// and short it takes no memory but the stack.
+/// and short it takes no memory but the stack, and where they are one text at most, none.
 #[inline(always)]
 pub(crate) fn packed<T>(
     first: &[&str],
     fields: Fields<'_>,
     call: impl FnOnce(Texts<'_>) -> Result<T, Refusal>,
 ) -> Result<T, Refusal> {
-    let (mut few, mut short, mut long) = ([SpanField::default(); FEW], [0; SHORT], None);
-    let texts = match pack_short(&mut few, &mut short, first, fields) {
-        Some(texts) => texts,
-        None => Packed::with_long(&mut long, first, fields)?,
+    let (mut few, mut short);
+    let mut long = None;
+    let texts = match (first, fields) {
+        ([], []) => Texts::of_one(""),
+        ([text], []) => Texts::of_one(text),
+        _ => {
+            (few, short) = ([SpanField::default(); FEW], [0; SHORT]);
+            match pack_short(&mut few, &mut short, first, fields) {
+                Some(texts) => texts,
+                None => Packed::with_long(&mut long, first, fields)?,
+            }
+        }
     };
     let answer = call(texts);
     if let Some(long) = long {
@@ -225,17 +244,17 @@ mod tests {
         let pairs: Vec<(&str, &str)> = (0..FEW + 2).map(|len| ("k", &text[..len])).collect();
         for fields in [&pairs[..0], &pairs[..FEW], &pairs[..=FEW], &pairs[..]] {
             for len in [0, 1, SHORT - 50, SHORT - 1, SHORT, SHORT + 1, KEPT * 2] {
-                let first = ["name", &text[..len]];
-                let mut wanted = Packed::default();
-                wanted.pack(&first, fields).unwrap();
-                let said = packed(&first, fields, |texts| {
-                    Ok((texts.fields.to_vec(), texts.bytes.to_vec()))
-                });
-                assert_eq!(said, Ok((wanted.fields().to_vec(), wanted.texts().to_vec())));
-                // What was long isn't kept where it is very long.
-                let kept = LONG.take();
-                assert!(kept.texts.capacity() <= KEPT);
-                LONG.set(kept);
+                let both = ["name", &text[..len]];
+                for first in [&both[..], &both[1..], &[]] {
+                    let mut wanted = Packed::default();
+                    wanted.pack(first, fields).unwrap();
+                    let said = packed(first, fields, |texts| Ok((texts.fields.to_vec(), texts.bytes.to_vec())));
+                    assert_eq!(said, Ok((wanted.fields().to_vec(), wanted.texts().to_vec())));
+                    // What was long isn't kept where it is very long.
+                    let kept = LONG.take();
+                    assert!(kept.texts.capacity() <= KEPT);
+                    LONG.set(kept);
+                }
             }
         }
         assert_eq!(

@@ -10,7 +10,7 @@ mod telling;
 
 pub(crate) use calls::{Core, Start};
 pub(crate) use closing::Closed;
-pub(crate) use lines::{Lines, Next};
+pub(crate) use lines::{Lines, Next, NextNote};
 
 use std::ffi::c_void;
 use std::ptr;
@@ -110,16 +110,16 @@ pub(crate) struct SpanCounts {
 }
 
 #[repr(C)]
-#[allow(dead_code)]
-struct SpanNote {
-    batch: u64,
-    id: u64,
-    layer: u32,
-    kind: u32,
-    worker: u32,
-    level: u32,
-    path_len: u32,
-    message_len: u32,
+#[derive(Clone, Copy, Debug, Default, PartialEq, Eq)]
+pub(crate) struct SpanNote {
+    pub(crate) batch: u64,
+    pub(crate) id: u64,
+    pub(crate) layer: u32,
+    pub(crate) kind: u32,
+    pub(crate) worker: u32,
+    pub(crate) level: u32,
+    pub(crate) path_len: u32,
+    pub(crate) message_len: u32,
 }
 
 #[repr(C)]
@@ -326,8 +326,6 @@ unsafe extern "C" {
     ) -> u32;
 
     fn span_drain_line(drain: *mut SpanDrain, layer: *mut u32, into: *mut u8, into_len: usize, len: *mut usize) -> u32;
-    // The package writes its notes from the text of their lines, which it hands out too.
-    #[allow(dead_code)]
     fn span_drain_note(
         drain: *mut SpanDrain,
         note: *mut SpanNote,

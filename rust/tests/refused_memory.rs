@@ -5,8 +5,8 @@
 //! which refuse one allocation of all of the process: its tests run one at a time.
 mod common;
 
-use common::{assert_empty, compact, id, info, texts, Ids};
-use span_registry::{Drain, Error, Parent, Registry};
+use common::{as_compact, assert_empty, compact, id, info, texts, Ids};
+use span_registry::{Drain, Error, Layer, Parent, Registry, RegistryBuilder};
 use std::collections::HashSet;
 use std::ffi::c_void;
 use std::io;
@@ -127,7 +127,7 @@ const LINES: [&str; 14] = [
 ];
 
 /// All kinds of calls and drops.
-fn run(registry: Registry, drain: &mut Drain) -> Calls {
+fn run(registry: Registry) -> Calls {
     assert_eq!(registry.worker(), Ok(0));
     let mut calls = Calls {
         registry,
@@ -160,35 +160,38 @@ fn run(registry: Registry, drain: &mut Drain) -> Calls {
     calls.drop(c);
     assert_empty(&calls.registry);
     assert_eq!(calls.registry.counts().calls, 16);
-    compare_lines(drain);
     calls
 }
 
+/// How what is at hand is read.
+type Read = fn(&mut Drain) -> Vec<String>;
+
 /// The lines are those, but for the ones that are missing.
-fn compare_lines(drain: &mut Drain) {
-    let lines = texts(drain);
+fn compare_lines(drain: &mut Drain, read: Read, wanted: &[String]) {
+    let lines = read(drain);
     let missed = usize::try_from(drain.counts().missed).expect("few");
-    assert_eq!(lines.len() + missed, LINES.len());
-    let mut wanted = LINES.iter();
+    assert_eq!(lines.len() + missed, wanted.len());
+    let mut wanted = wanted.iter();
     assert!(
         lines.iter().all(|line| wanted.any(|wanted| wanted == line)),
         "{lines:?}"
     );
 }
 
-#[test]
-fn each_refused_allocation_is_answered_and_changes_nothing() {
+/// Refuses each allocation in turn.
+fn refuse_each(builder: &RegistryBuilder, read: Read, wanted: &[String]) {
     let _alone = ALONE.lock().unwrap_or_else(PoisonError::into_inner);
     let (mut of_build, mut of_calls, mut of_drops, mut of_lines) = (0, 0, 0, 0);
     for before in 0.. {
         BEFORE.store(before, Ordering::SeqCst);
-        match compact().build() {
+        match builder.clone().build() {
             Err(error) => {
                 assert_eq!(error, Error::OutOfMemory);
                 of_build += 1;
             }
             Ok((registry, mut drain)) => {
-                let calls = run(registry, &mut drain);
+                let calls = run(registry);
+                compare_lines(&mut drain, read, wanted);
                 of_calls += calls.refused;
                 of_drops += calls.owed;
                 of_lines += drain.counts().missed;
@@ -200,6 +203,46 @@ fn each_refused_allocation_is_answered_and_changes_nothing() {
     }
     println!("refused: {of_build} starts, {of_calls} calls, {of_drops} drops, {of_lines} lines");
     assert!(of_build > 0 && of_calls > 0 && of_drops > 0 && of_lines > 0);
+}
+
+#[test]
+fn each_refused_allocation_is_answered_and_changes_nothing() {
+    refuse_each(&compact(), texts, &LINES.map(str::to_owned));
+}
+
+#[test]
+fn notes_are_missing_only_where_memory_was_refused_for_them() {
+    let trees = Registry::builder().workers(1).layer(Layer::tree());
+    let read: Read = |drain| {
+        std::iter::from_fn(|| drain.note())
+            .map(|note| as_compact(&note))
+            .collect()
+    };
+    refuse_each(&trees, read, &LINES.map(str::to_owned));
+}
+
+/// With no time in those of trees.
+fn timeless(drain: &mut Drain) -> Vec<String> {
+    let without = |text: String| match text.split_once(",\"fields\":") {
+        Some((_, rest)) => format!("tree {rest}"),
+        None => text,
+    };
+    texts(drain).into_iter().map(without).collect()
+}
+
+#[test]
+fn lines_of_trees_beside_others_are_missing_only_where_memory_was_refused_for_them() {
+    let both = compact().layer(Layer::tree());
+    let wanted = {
+        let _alone = ALONE.lock().unwrap_or_else(PoisonError::into_inner);
+        BEFORE.store(u64::MAX, Ordering::SeqCst);
+        let (registry, mut drain) = both.clone().build().expect("memory is there");
+        run(registry);
+        timeless(&mut drain)
+    };
+    let (trees, others): (Vec<&String>, Vec<&String>) = wanted.iter().partition(|line| line.starts_with("tree "));
+    assert!(others == LINES && trees.len() == LINES.len());
+    refuse_each(&both, timeless, &wanted);
 }
 
 #[test]

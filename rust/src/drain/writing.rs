@@ -80,8 +80,9 @@ impl Drain {
     fn write_while(&mut self, outs: &mut impl Outs, goes_on: impl Fn(&Drain) -> bool) -> io::Result<u64> {
         outs.check(self.forms.len())?;
         let mut lines = 0;
-        while let Some((layer, length)) = self.next_text(&goes_on) {
-            let line = self.heads[self.at].with_newline(length);
+        while let Some((layer, length)) = self.next_ready(&goes_on) {
+            let part = self.parts.part(self.at as u32);
+            let line = self.heads[self.at].with_newline(part, length);
             workers::writing(self.parts.common(), || outs.write(layer, line))?;
             self.heads[self.at].ready = None;
             lines += 1;

@@ -1,5 +1,8 @@
 //! The owner of a drain's handle.
-use super::{span_drain_counts, span_drain_free, span_drain_line, span_drain_skip_batch, SpanDrain, OK, SHORT_BUFFER};
+use super::{
+    span_drain_counts, span_drain_free, span_drain_line, span_drain_note, span_drain_skip_batch, SpanDrain, SpanField,
+    SpanNote, OK, SHORT_BUFFER,
+};
 
 /// What stands next in a drain.
 pub(crate) enum Next {
@@ -7,6 +10,20 @@ pub(crate) enum Next {
     Line { layer: u32, length: usize },
     /// A line of so many bytes, more than there was room for. It stays the next one.
     Long { length: usize },
+    /// None now.
+    None,
+}
+
+/// What stands next in a drain, where its note is read in the line's place.
+pub(crate) enum NextNote {
+    /// A note of so many fields and bytes.
+    Note {
+        note: SpanNote,
+        fields: usize,
+        bytes: usize,
+    },
+    /// A note of so many fields and bytes, of one of which there are more than there was room for. It stays the next one.
+    Long { fields: usize, bytes: usize },
     /// None now.
     None,
 }
@@ -35,6 +52,35 @@ impl Lines {
             OK => Next::Line { layer, length },
             SHORT_BUFFER => Next::Long { length },
             _ => Next::None,
+        }
+    }
+
+    /// Reads the note of the next line: the lengths of its fields, and its texts, which are the path, the message, then
+    /// each key and value, into the beginning of `fields` and `texts`.
+    pub(crate) fn next_note(&mut self, fields: &mut [SpanField], texts: &mut [u8]) -> NextNote {
+        let (mut note, mut count, mut bytes) = (SpanNote::default(), 0, 0);
+        // SAFETY: the handle is full and lent to this call alone, as are the numbers, the fields and the bytes of
+        // `texts`; nothing that is written overlaps anything else.
+        let status = unsafe {
+            span_drain_note(
+                &mut self.handle,
+                &mut note,
+                fields.as_mut_ptr(),
+                fields.len(),
+                &mut count,
+                texts.as_mut_ptr(),
+                texts.len(),
+                &mut bytes,
+            )
+        };
+        match status {
+            OK => NextNote::Note {
+                note,
+                fields: count,
+                bytes,
+            },
+            SHORT_BUFFER => NextNote::Long { fields: count, bytes },
+            _ => NextNote::None,
         }
     }
 

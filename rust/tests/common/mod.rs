@@ -1,6 +1,6 @@
 //! What several tests need.
 #![allow(dead_code)]
-use span_registry::{Drain, Error, Fields, Id, Layer, Level, Meta, Parent, Registry, RegistryBuilder, Span};
+use span_registry::{Drain, Error, Fields, Id, Layer, Level, Meta, Note, Parent, Registry, RegistryBuilder, Span};
 
 /// No name: it has 65 bytes.
 pub const LONG: &str = "nnnnnnnnnnnnnnnnnnnnnnnnnnnnnnnnnnnnnnnnnnnnnnnnnnnnnnnnnnnnnnnnn";
@@ -99,4 +99,31 @@ pub fn assert_empty(registry: &Registry) {
     let counts = registry.counts();
     assert_eq!((counts.open, counts.held, counts.owed), (0, 0, 0), "{counts:?}");
     assert_eq!(counts.made, counts.closed, "{counts:?}");
+}
+
+/// What a layer in the compact form writes that is told the same as a layer in the form of trees.
+pub fn as_compact(note: &Note) -> String {
+    let escaped = |text: &str| text.replace('\\', "\\\\").replace('\n', "\\n").replace('\r', "\\r");
+    let id = note.id.or(note.parent).map_or(0, Id::into_u64);
+    let mut line = format!("{} {id} w{} {}", note.kind.name(), note.worker, note.path);
+    if let Some(message) = &note.message {
+        line += &format!(" {} {}", note.level, escaped(message));
+    }
+    for field in &note.fields {
+        line += &format!(" {}={}", as_written(&field.key), escaped(&field.value));
+    }
+    line
+}
+
+/// How lines write a key.
+fn as_written(key: &str) -> String {
+    let is_itself = |byte: u8| byte.is_ascii_alphanumeric() || byte == b'_' || byte == b'.';
+    if !key.is_empty() && !key.starts_with("--") && key.bytes().all(|byte| is_itself(byte) || byte == b'-') {
+        return key.to_owned();
+    }
+    let written = |byte: u8| match byte {
+        byte if is_itself(byte) => char::from(byte).to_string(),
+        byte => format!("-{byte:02X}"),
+    };
+    format!("--{}", key.bytes().map(written).collect::<String>())
 }

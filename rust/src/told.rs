@@ -1,0 +1,171 @@
+//! The next note of a layer in the form of trees, before it is handed out.
+#![forbid(unsafe_code)]
+use crate::interest::Interest;
+use crate::kind::Kind;
+use crate::level::Level;
+use crate::meta::{Id, RawId};
+use crate::names::{is_marked, read};
+use crate::note::{Note, NoteField, NoteKind, Text};
+use crate::notes::Book;
+use crate::part::Part;
+use crate::said::{text_of, Said};
+use std::borrow::Cow;
+use std::iter;
+use std::time::Duration;
+
+/// What a line has beside its texts takes so many bytes at most.
+const BESIDE: usize = 200;
+
+/// What the proved registry says of it, and of what was kept beside the ring a copy, since the reader isn't the only one
+/// who throws away what is kept. All in memory that is used for the next one.
+pub(crate) struct Told {
+    pub(crate) said: Said,
+    at: u64,
+    parent: Option<RawId>,
+    level: Level,
+    target: String,
+    name: String,
+    // Of its fields; where these are more, the others are texts.
+    kinds: Vec<Kind>,
+}
+
+impl Told {
+    pub(crate) fn new() -> Told {
+        Told {
+            said: Said::default(),
+            at: 0,
+            parent: None,
+            level: Level::Trace,
+            target: String::new(),
+            name: String::new(),
+            kinds: Vec::new(),
+        }
+    }
+
+    fn kind(&self) -> NoteKind {
+        NoteKind::of_number(self.said.note().kind)
+    }
+
+    fn id(&self) -> Option<RawId> {
+        RawId::from_u64(self.said.note().id)
+    }
+
+    /// What is kept of the first call in the book, whose note it is, and of its span.
+    pub(crate) fn complete(&mut self, book: &Book, interest: &Interest) {
+        let (kind, id, layer) = (self.kind(), self.id(), self.said.note().layer as usize);
+        let (at, event) = book.first();
+        let span = id.and_then(|id| book.span(id));
+        let known = match kind {
+            NoteKind::Event => event,
+            _ => span.map(|span| &span.known),
+        };
+        self.at = at;
+        self.parent = match kind {
+            // The one that the layer admits.
+            NoteKind::Event => id,
+            _ => admitted(book, interest, layer, span.and_then(|span| span.parent)),
+        };
+        self.level = known.map_or(Level::Trace, |known| known.level);
+        self.target.clear();
+        self.name.clear();
+        self.kinds.clear();
+        if let Some(known) = known {
+            self.target.push_str(&known.target);
+            self.name.push_str(&known.name);
+        }
+        let kinds = match kind {
+            NoteKind::Record => book.recorded(),
+            _ => known.map_or(&[][..], |known| &known.kinds),
+        };
+        self.kinds.extend_from_slice(kinds);
+    }
+
+    // Keys as they were given.
+    fn fields(&self) -> impl Iterator<Item = (Cow<'_, [u8]>, Kind, &[u8])> {
+        let kinds = self.kinds.iter().copied().chain(iter::repeat(Kind::Text));
+        self.said
+            .fields()
+            .zip(kinds)
+            .map(|((key, value), kind)| (as_given(key), kind, value))
+    }
+
+    /// As a struct, of a line of this part.
+    pub(crate) fn note(&self, part: &Part) -> Note {
+        let (said, registry) = (self.said.note(), part.common().number());
+        let whole = |id: Option<RawId>| id.map(|id| Id::of(registry, part.place(), id));
+        let kind = self.kind();
+        let is_event = kind == NoteKind::Event;
+        Note {
+            layer: said.layer as usize,
+            kind,
+            at: Duration::from_nanos(self.at),
+            worker: part.first_worker() + said.worker,
+            id: whole(self.id().filter(|_| !is_event)),
+            parent: whole(self.parent),
+            level: self.level,
+            target: self.target.clone(),
+            name: self.name.clone(),
+            path: text_of(self.said.path()),
+            message: is_event.then(|| text_of(self.said.message())),
+            fields: self.fields().map(field).collect(),
+        }
+    }
+
+    /// The text of the same.
+    pub(crate) fn text(&self, part: &Part) -> String {
+        let room = BESIDE + self.said.room() + self.name.len() + self.target.len();
+        let mut text = Vec::with_capacity(room);
+        self.write(part, &mut text);
+        String::from_utf8(text).unwrap_or_else(|error| text_of(error.as_bytes()))
+    }
+
+    /// Puts that behind others.
+    pub(crate) fn write(&self, part: &Part, out: &mut Vec<u8>) {
+        let said = self.said.note();
+        let whole = |id: Option<RawId>| id.map_or(0, |id| id.in_part(part.place()).get());
+        let kind = self.kind();
+        let is_event = kind == NoteKind::Event;
+        Text {
+            at: u128::from(self.at),
+            id: whole(self.id().filter(|_| !is_event)),
+            kind,
+            level: self.level,
+            message: is_event.then(|| self.said.message()),
+            name: self.name.as_bytes(),
+            parent: whole(self.parent),
+            path: self.said.path(),
+            target: self.target.as_bytes(),
+            worker: part.first_worker() + said.worker,
+        }
+        .write(self.fields(), out);
+    }
+}
+
+// The nearest of this one and those above it that the layer admits.
+fn admitted(book: &Book, interest: &Interest, layer: usize, mut above: Option<RawId>) -> Option<RawId> {
+    while let Some(span) = above.and_then(|id| book.span(id)) {
+        if interest.layer_admits(layer, span.known.level, &span.known.target) {
+            return above;
+        }
+        above = span.parent;
+    }
+    None
+}
+
+// The key that is written so.
+fn as_given(key: &[u8]) -> Cow<'_, [u8]> {
+    if !is_marked(key) {
+        return Cow::Borrowed(key);
+    }
+    // Keys are ASCII.
+    let key = read(std::str::from_utf8(key).unwrap_or_default());
+    Cow::Owned(key.into_owned().into_bytes())
+}
+
+fn field((key, kind, value): (Cow<'_, [u8]>, Kind, &[u8])) -> NoteField {
+    NoteField {
+        key: text_of(&key),
+        kind,
+        value: text_of(value),
+    }
+}
