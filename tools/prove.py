@@ -129,8 +129,9 @@ class Progress:
 def begin_those_that_can(proofs, jobs):
     """Begins crates below which all is proved, those with the longest ways first, and gives them.
 
-    The one with the longest way goes before the others, and gets more jobs: each does anew a part of what the others of
-    its crate do (four take half as much again as one). At once are three crates for each four processors.
+    Each gets a job for each processor: no proof gets more jobs later, and none has work for all of them all the time.
+    The one with the longest way of all goes before the others, for what that one leaves. At once are three for each
+    four processors: so those with short ways run beside the last ones, which leave the most.
     """
     ways = ways_through(proofs)
     ready = [it for it in proofs if not it.thread and all(below.is_proved() for below in it.below)]
@@ -139,10 +140,9 @@ def begin_those_that_can(proofs, jobs):
     for proof in begun:
         lay_room(proof)
         is_longest = all(ways[proof] >= ways[it] for it in proofs if it.is_at_work())
-        own = max(jobs * 3 // 4, 1) if is_longest else (jobs + 1) // 2
-        words = f"rt run --jobs {own} -- replay" if proof is proofs[-1] else f"rt lib --jobs {own}"
+        words = "rt run --jobs {} -- replay" if proof is proofs[-1] else "rt lib --jobs {}"
         proof.is_from_nothing = not proof.kept.exists()
-        proof.begin(words.split(), proof.kept.parent, 0 if is_longest else 10)
+        proof.begin(words.format(jobs).split(), proof.kept.parent, 0 if is_longest else 10)
     return begun
 
 
