@@ -2,7 +2,7 @@
 use Rattle.std.proofs.Common.{◌≡◌, ◌≢◌, ℕ, ◌+◌, true, false, List, Option, Some, sym, ap, ◌∙◌, inl, inr, arith}
 use Rattle.std.proofs.lemmas.Bool.{cases_Bool, false≢true}
 use Rattle.span_id.specs.Meta.{KeyValue, PlainMeta}
-use Rattle.span_layers.specs.Filter.{Filter}
+use Rattle.span_layers.specs.Filter.{Filter, admission_set}
 use Rattle.span_forest.specs.declared.span.Holder.TheVariants.{Handle}
 use Rattle.span_forest.specs.Spans.{find}
 use Rattle.span_forest.specs.Forest.{IsForest}
@@ -12,7 +12,7 @@ use Rattle.span_forest.proofs.Spared.{not_some}
 use Rattle.span_forest.proofs.Handles.{handles-with, handles-fields, handles-kept_handle, handles-kept_entry, handles-left_handle, handles-left_entry}
 use Rattle.span_core.specs.World.{World}
 use Rattle.span_outlet.specs.Request.{Request, new_span, clone_span, enter, exit, try_close, record_fields, event, Answer, made, cloned, entered, exited, released, recorded, told}
-use Rattle.span_core.specs.Step.{Changes, made_node, stays_inside}
+use Rattle.span_core.specs.Step.{Changes, stays_inside}
 use Rattle.span_core.specs.Handles.{handles_given_out, handles_given_back}
 use Rattle.span_core.proofs.Accepting.{held_open}
 use Rattle.span_core.proofs.Legal.{IsSettled}
@@ -21,7 +21,7 @@ pub handles_step : (rules : List Filter) (ids : List ℕ) (old : World) (request
     → total_handles new.spans + handles_given_back request ≡ total_handles old.spans + handles_given_out request
 handles_step rules ids old (new_span worker meta fields parent) (made id) new h forest =
     let is = ap (λ (w : World). total_handles w.spans) h.after in
-    let more = handles-with old.spans id (made_node rules meta fields parent) in
+    let more = handles-with old.spans id (new_node meta fields parent (admission_set rules meta.target meta.level)) in
     omega (arith, is, more)
 handles_step rules ids old (clone_span worker id) cloned new h forest =
     let is = ap (λ (w : World). total_handles w.spans) h.after in
@@ -56,12 +56,12 @@ handles_step rules ids old _ _ new h forest = absurd h
 
 module _ (rules : List Filter) (ids closed : List ℕ) (old : World) (worker id : ℕ) (meta : PlainMeta) (fields : List KeyValue) (parent : Option ℕ) (new : World)
     (change : Changes rules ids old (new_span worker meta fields parent) (made id) new) where
-  pub found_new : IsSettled rules ids closed old.spans → find new.spans id ≡ Some (made_node rules meta fields parent)
+  pub found_new : IsSettled rules ids closed old.spans → find new.spans id ≡ Some (new_node meta fields parent (admission_set rules meta.target meta.level))
   found_new w =
       ap (λ (v : World). find v.spans id) change.after
-      ∙ find-with_same old.spans id (made_node rules meta fields parent) (not_some (find old.spans id) (λ there. false≢true (sym change.not_issued ∙ w.open_issued id there)))
+      ∙ find-with_same old.spans id (new_node meta fields parent (admission_set rules meta.target meta.level)) (not_some (find old.spans id) (λ there. false≢true (sym change.not_issued ∙ w.open_issued id there)))
 
   pub found_other : (other : ℕ) → other ≢ id → find new.spans other ≡ find old.spans other
   found_other other apart =
       ap (λ (v : World). find v.spans other) change.after
-      ∙ find-with_other old.spans id other (made_node rules meta fields parent) apart
+      ∙ find-with_other old.spans id other (new_node meta fields parent (admission_set rules meta.target meta.level)) apart

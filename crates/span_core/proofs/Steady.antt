@@ -4,9 +4,10 @@ use Rattle.std.specs.Prelude.{is_some, unwrap_or}
 use Rattle.std.proofs.lemmas.List.{length-replicate}
 use Rattle.span_id.specs.declared.limits.Limits.{Limits}
 use Rattle.span_layers.specs.Note.{PlainNote}
+use Rattle.span_layers.specs.Filter.{admission_set}
 use Rattle.span_forest.specs.declared.span.Holder.{Holder}
 use Rattle.span_forest.specs.declared.span.Holder.TheVariants.{Handle, Entry}
-use Rattle.span_forest.specs.Node.{Node, with_fields}
+use Rattle.span_forest.specs.Node.{Node, new_node, with_fields}
 use Rattle.span_forest.specs.Spans.{Spans, IsOpen, with_change}
 use Rattle.span_forest.specs.Live.{is_live}
 use Rattle.span_forest.specs.Holders.{with_more}
@@ -18,7 +19,7 @@ use Rattle.span_forest.proofs.Upheld.{IsUpheld, upheld_empty, upheld_with, uphel
 use Rattle.span_stack.specs.Stack.{has, without_last}
 use Rattle.span_core.specs.World.{World, IsWorld, empty_world, stack_of}
 use Rattle.span_outlet.specs.Request.{Request, new_span, clone_span, enter, exit, try_close, record_fields, event, Answer, worker_of}
-use Rattle.span_core.specs.Step.{made_node, is_open_parent, stays_inside}
+use Rattle.span_core.specs.Step.{is_open_parent, stays_inside}
 use Rattle.span_core.specs.NextId.{SlotsUsed, slots_after, with_answer}
 use Rattle.span_core.specs.Core.{CoreView, id_after, IsDue}
 use Rattle.span_core.specs.Outcome.{answer_to, world_after, core_after}
@@ -119,7 +120,7 @@ exit_steady core worker id notes steady low inside = by_case (stays_inside core.
 pub steady_then : (core : CoreView) (request : Request) (notes : List PlainNote) → IsSteady core → worker_of request < core.limits.workers → IsDue core request → IsSteady (core_then core request notes)
 steady_then core (new_span worker meta fields parent) notes steady low due =
     let spans = core.world.spans in
-    let node = made_node core.rules meta fields parent in
+    let node = new_node meta fields parent (admission_set core.rules meta.target meta.level) in
     let next = agrees_made core.limits.slots core.limits.last_generation spans (used_in core) steady.slots due.slot in
     then_steady core (new_span worker meta fields parent) notes
     (upheld_with spans (unwrap_or (id_after core) 0) node steady.upheld next.0 (parent_open spans parent due.known) (omega arith))

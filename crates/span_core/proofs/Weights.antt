@@ -6,8 +6,9 @@ use Rattle.std.proofs.lemmas.Bool.{cases_Bool, false≢true}
 use Rattle.std.proofs.lemmas.Bool.Decides.{eqb_tells}
 use Rattle.std.proofs.lemmas.List.Sums.{sum_by-set}
 use Rattle.span_layers.specs.Note.{PlainNote}
+use Rattle.span_layers.specs.Filter.{admission_set}
 use Rattle.span_forest.specs.declared.span.Holder.TheVariants.{Handle, Entry}
-use Rattle.span_forest.specs.Node.{with_fields}
+use Rattle.span_forest.specs.Node.{new_node, with_fields}
 use Rattle.span_forest.specs.Spans.{find}
 use Rattle.span_forest.specs.Count.{total_held}
 use Rattle.span_forest.specs.Holders.{IsHeld, held_in, with_more}
@@ -18,7 +19,7 @@ use Rattle.span_forest.proofs.Adds.{find-with_other}
 use Rattle.span_stack.specs.Stack.{has, without_last}
 use Rattle.span_core.specs.World.{World, stack_of}
 use Rattle.span_outlet.specs.Request.{Request, new_span, clone_span, enter, exit, try_close, record_fields, event, made, worker_of}
-use Rattle.span_core.specs.Step.{made_node, stays_inside}
+use Rattle.span_core.specs.Step.{stays_inside}
 use Rattle.span_core.specs.Core.{CoreView, id_after, IsDue}
 use Rattle.span_core.proofs.Deciding.{held_from}
 use Rattle.span_core.proofs.Accepting.{held_open, inside_held}
@@ -89,7 +90,7 @@ enter_weight core worker id steady within held =
 pub weight_then : (core : CoreView) (request : Request) (notes : List PlainNote) → IsSteady core → worker_of request < core.limits.workers → IsDue core request → weight (core_then core request notes) ≤ weight core + most_more request
 weight_then core (new_span worker meta fields parent) notes steady low due =
     sent_more core (new_span worker meta fields parent) notes 3
-    (let is = total-with core.world.spans (unwrap_or (id_after core) 0) (made_node core.rules meta fields parent) in omega (arith, is))
+    (let is = total-with core.world.spans (unwrap_or (id_after core) 0) (new_node meta fields parent (admission_set core.rules meta.target meta.level)) in omega (arith, is))
 weight_then core (clone_span worker id) notes steady low due =
     sent_more core (clone_span worker id) notes 3
     (let there = held_open core.world.spans id Handle (held_from core.world.spans id due.known) in let is = total-kept core.world.spans id Handle there.0 steady.upheld.forest.ids_apart there.1 in omega (arith, is))
@@ -109,7 +110,7 @@ pub handle_before : (core : CoreView) (request : Request) → IsDue core request
 handle_before core (new_span worker meta fields parent) due j held =
     elim (eqb_tells j (unwrap_or (id_after core) 0)) [
       | inl t ↦ inr (ap made (sym t.1))
-      | inr t ↦ inl (let same = ap (held_in Handle) (find-with_other core.world.spans (unwrap_or (id_after core) 0) j (made_node core.rules meta fields parent) t.1) in omega (arith, held, same))
+      | inr t ↦ inl (let same = ap (held_in Handle) (find-with_other core.world.spans (unwrap_or (id_after core) 0) j (new_node meta fields parent (admission_set core.rules meta.target meta.level)) t.1) in omega (arith, held, same))
     ]
 handle_before core (clone_span worker id) due j held =
     elim (eqb_tells j id) [

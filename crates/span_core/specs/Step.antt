@@ -5,7 +5,7 @@ use Rattle.span_id.specs.Meta.{KeyValue, PlainMeta}
 use Rattle.span_layers.specs.Note.{PlainNote}
 use Rattle.span_layers.specs.Filter.{Filter, admission_set}
 use Rattle.span_forest.specs.declared.span.Holder.TheVariants.{Handle, Entry}
-use Rattle.span_forest.specs.Node.{Node, with_fields}
+use Rattle.span_forest.specs.Node.{new_node, with_fields}
 use Rattle.span_forest.specs.Spans.{Spans, find, with_node, with_change}
 use Rattle.span_forest.specs.Live.{stands_in}
 use Rattle.span_forest.specs.Holders.{IsHeld}
@@ -22,25 +22,14 @@ use Rattle.span_core.specs.Happening.{happenings, notes_of_all}
 abbrev pub is_wanted_meta : List Filter → PlainMeta → Bool
 is_wanted_meta rules meta = length rules == 0 || not (admission_set rules meta.target meta.level == 0)
 
--- a new span: one handle of it is out, and its admission set is that of the call's meta
-abbrev pub made_node : List Filter → PlainMeta → List KeyValue → Option ℕ → Node
-made_node rules meta fields parent = record {
-  name = meta.name;
-  target = meta.target;
-  level = meta.level;
-  fields = fields;
-  bits = admission_set rules meta.target meta.level;
-  parent = parent;
-  handles = 1;
-  entries = 0;
-}
-
 -- ---- the world after each call
 
--- one span more
+-- one span more: its admission set is that of the call's meta
 abbrev pub world_made : List Filter → World → PlainMeta → List KeyValue → Option ℕ → ℕ → World
 world_made rules old meta fields parent id =
-    record old { spans = with_node old.spans id (made_node rules meta fields parent) }
+    record old {
+      spans = with_node old.spans id (new_node meta fields parent (admission_set rules meta.target meta.level));
+    }
 
 -- one handle more
 abbrev pub world_cloned : World → ℕ → World

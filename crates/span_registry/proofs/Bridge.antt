@@ -6,9 +6,10 @@ use Rattle.std.proofs.lemmas.Bool.{cases_Bool, false≢true}
 use Rattle.std.proofs.lemmas.Bool.Decides.{eqb_tells}
 use Rattle.span_id.specs.Id.{slot_of, IsId}
 use Rattle.span_id.specs.Meta.{KeyValue, PlainMeta}
+use Rattle.span_layers.specs.Filter.{admission_set}
 use Rattle.span_forest.specs.declared.span.Holder.{Holder}
 use Rattle.span_forest.specs.declared.span.Holder.TheVariants.{Handle, Entry}
-use Rattle.span_forest.specs.Node.{Node}
+use Rattle.span_forest.specs.Node.{Node, new_node}
 use Rattle.span_forest.specs.Spans.{Spans, find, IsOpen, with_change, with_node}
 use Rattle.span_forest.specs.Live.{stands_in, is_live}
 use Rattle.span_forest.specs.Holders.{IsHeld, held_in, with_more, with_less}
@@ -20,7 +21,7 @@ use Rattle.span_forest.proofs.Spared.{kept_passes, passing_kept, not_some, none_
 use Rattle.span_forest.proofs.Upheld.{IsUpheld}
 use Rattle.span_outlet.specs.Request.{clone_span, cloned, new_span, made}
 use Rattle.span_core.specs.World.{World}
-use Rattle.span_core.specs.Step.{made_node, is_open}
+use Rattle.span_core.specs.Step.{is_open}
 use Rattle.span_core.specs.History.{IsLegal}
 use Rattle.span_core.specs.Core.{CoreView, IsAccepted}
 use Rattle.span_core.proofs.Legal.{whole}
@@ -160,7 +161,7 @@ pub added_of : (core new : CoreView) (worker : ℕ) (meta : PlainMeta) (fields :
 added_of core new worker meta fields parent id legal one range accepted =
     let w = (whole _ _ _ _ legal).settled in
     let spans = core.world.spans in
-    let node = made_node core.rules meta fields parent in
+    let node = new_node meta fields parent (admission_set core.rules meta.target meta.level) in
     let step = accepted.step.changes in
     let after : new.world.spans ≡ with_node spans id node = ap (λ (v : World). v.spans) step.after in
     let absent : find spans id ≡ None = not_some (find spans id) (λ o. false≢true (sym step.not_issued ∙ w.open_issued id o)) in

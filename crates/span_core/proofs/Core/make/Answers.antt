@@ -14,7 +14,7 @@ use Rattle.span_forest.specs.Add.{with_span}
 use Rattle.span_stack.specs.Stack.{ids_of_each}
 use Rattle.span_outlet.specs.Request.{made}
 use Rattle.span_core.specs.Happening.{at_span, notes_of_all}
-use Rattle.span_core.specs.Step.{is_wanted_meta, made_node, is_open_parent}
+use Rattle.span_core.specs.Step.{is_wanted_meta, is_open_parent}
 use Rattle.span_core.specs.inside.Sound.{first_note, hears}
 use Rattle.span_core.specs.NextId.{next_id_after}
 use Rattle.span_core.specs.inside.Given.{meta_given, fields_given}
@@ -58,14 +58,14 @@ in_layout g c = subst (λ (o : Option ℕ). IfSome o IsId) (next g c) c.next_id_
 gone : (g : given.Over) (c : After-put g) → find c.self.inside.forest.spans c.args.new.now.id ≡ None
 gone g c = not_open c.self.inside.forest.spans c.args.new.now.id (IsIssued (table_of c.self.inside.forest) c.args.new.now.id) (c.each_slot_has_one_open_id.ensures.issued c.args.new.now.id) (never g c)
 
-forest_is : (g : given.Over) (c : After-put g) → c.add_span.new.forest ≡ with_span c.self.inside.forest c.args.new.now.id (made_node c.self.inside.rules (meta_given c.args.new.now.meta) (fields_given c.args.new.now.fields) c.args.new.now.parent)
+forest_is : (g : given.Over) (c : After-put g) → c.add_span.new.forest ≡ with_span c.self.inside.forest c.args.new.now.id (new_node (meta_given c.args.new.now.meta) (fields_given c.args.new.now.fields) c.args.new.now.parent (admission_set c.self.inside.rules (meta_given c.args.new.now.meta).target (meta_given c.args.new.now.meta).level))
 forest_is g c =
     c.in_ok-call.ensures.forest
     ∙ (λ j. with_span c.self.inside.forest c.args.new.now.id (new_node (meta_given c.args.new.now.meta) (fields_given c.args.new.now.fields) c.args.new.now.parent (bits_are g c j)))
 
 told : (g : given.Over) (c : After-put g) → map plain_note c.in_ok-call.field-0.notes.items ≡ notes_of_all c.self.inside.rules c.args.new.now.worker (at_span c.add_span.new.forest.spans OnNew c.args.new.now.id (fields_given c.args.new.now.fields) ∷ [])
 told g c =
-    new_notes c.self.inside.rules c.args.new.now.worker c.args.new.now.id c.self.inside.forest.spans c.add_span.new.forest.spans (made_node c.self.inside.rules (meta_given c.args.new.now.meta) (fields_given c.args.new.now.fields) c.args.new.now.parent) (fields_given c.args.new.now.fields) _
+    new_notes c.self.inside.rules c.args.new.now.worker c.args.new.now.id c.self.inside.forest.spans c.add_span.new.forest.spans (new_node (meta_given c.args.new.now.meta) (fields_given c.args.new.now.fields) c.args.new.now.parent (admission_set c.self.inside.rules (meta_given c.args.new.now.meta).target (meta_given c.args.new.now.meta).level)) (fields_given c.args.new.now.fields) _
     (gone g c) c.open_spans_are_counted.ensures.parent (parent_open g c) (ap (λ f. f.spans) (forest_is g c))
     (c.in_ok-call.ensures.notes
     ∙ (λ j. map (first_note c.self.inside.forest.spans c.args.new.now.worker c.args.new.now.id c.args.new.now.parent (meta_given c.args.new.now.meta).name (fields_given c.args.new.now.fields))
