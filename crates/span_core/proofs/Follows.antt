@@ -4,6 +4,7 @@ use Rattle.std.proofs.lemmas.Bool.{cases_Bool, false≢true}
 use Rattle.span_id.specs.Meta.{KeyValue, PlainMeta}
 use Rattle.span_layers.specs.Filter.{Filter, admission_set}
 use Rattle.span_forest.specs.declared.span.Holder.TheVariants.{Handle}
+use Rattle.span_forest.specs.Node.{new_node}
 use Rattle.span_forest.specs.Spans.{find}
 use Rattle.span_forest.specs.Forest.{IsForest}
 use Rattle.span_forest.specs.Count.{total_handles}
@@ -14,6 +15,8 @@ use Rattle.span_core.specs.World.{World}
 use Rattle.span_outlet.specs.Request.{Request, new_span, clone_span, enter, exit, try_close, record_fields, event, Answer, made, cloned, entered, exited, released, recorded, told}
 use Rattle.span_core.specs.Step.{Changes, stays_inside}
 use Rattle.span_core.specs.Handles.{handles_given_out, handles_given_back}
+use Rattle.span_core.proofs.Deciding.{held_from}
+use Rattle.span_core.proofs.Steps.{answered}
 use Rattle.span_core.proofs.Accepting.{held_open}
 use Rattle.span_core.proofs.Legal.{IsSettled}
 
@@ -25,7 +28,7 @@ handles_step rules ids old (new_span worker meta fields parent) (made id) new h 
     omega (arith, is, more)
 handles_step rules ids old (clone_span worker id) cloned new h forest =
     let is = ap (λ (w : World). total_handles w.spans) h.after in
-    let there = held_open old.spans id Handle h.held in
+    let there = held_open old.spans id Handle (held_from old.spans id h.known) in
     let more = handles-kept_handle old.spans id there.0 forest.ids_apart there.1 in
     omega (arith, is, more)
 handles_step rules ids old (enter worker id) (entered true) new h forest =
@@ -43,7 +46,7 @@ handles_step rules ids old (exit worker id) (exited closed) new h forest =
     ]
 handles_step rules ids old (try_close worker id) (released closed) new h forest =
     let is = ap (λ (w : World). total_handles w.spans) h.after in
-    let less = handles-left_handle old.spans id forest h.held in
+    let less = handles-left_handle old.spans id forest (held_from old.spans id h.known) in
     omega (arith, is, less)
 handles_step rules ids old (record_fields worker id fields) recorded new h forest =
     let is = ap (λ (w : World). total_handles w.spans) h.after in
@@ -52,14 +55,14 @@ handles_step rules ids old (record_fields worker id fields) recorded new h fores
 handles_step rules ids old (event worker meta message fields parent) told new h forest =
     let is = ap (λ (w : World). total_handles w.spans) h.after in
     omega (arith, is)
-handles_step rules ids old _ _ new h forest = absurd h
+handles_step rules ids old _ _ new h forest = absurd (false≢true (answered h))
 
 module _ (rules : List Filter) (ids closed : List ℕ) (old : World) (worker id : ℕ) (meta : PlainMeta) (fields : List KeyValue) (parent : Option ℕ) (new : World)
     (change : Changes rules ids old (new_span worker meta fields parent) (made id) new) where
   pub found_new : IsSettled rules ids closed old.spans → find new.spans id ≡ Some (new_node meta fields parent (admission_set rules meta.target meta.level))
   found_new w =
       ap (λ (v : World). find v.spans id) change.after
-      ∙ find-with_same old.spans id (new_node meta fields parent (admission_set rules meta.target meta.level)) (not_some (find old.spans id) (λ there. false≢true (sym change.not_issued ∙ w.open_issued id there)))
+      ∙ find-with_same old.spans id (new_node meta fields parent (admission_set rules meta.target meta.level)) (not_some (find old.spans id) (λ there. false≢true (sym change.id_is_new.1 ∙ w.open_issued id there)))
 
   pub found_other : (other : ℕ) → other ≢ id → find new.spans other ≡ find old.spans other
   found_other other apart =

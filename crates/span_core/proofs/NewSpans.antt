@@ -177,10 +177,12 @@ step_new rules ids spans new_spans stacks worker id meta fields parent notes wit
     record {
       within = within;
       changes = record {
-        in_layout = in_layout;
-        not_issued = not_issued;
         wanted = wanted;
-        parent_open = there;
+        known = there;
+        inside = refl;
+        id = id;
+        answer_is = refl;
+        id_is_new = (in_layout, not_issued);
         after = λ j. record { spans = spans_are j; stacks = stacks };
       };
       notes_are = notes_are;

@@ -1,6 +1,5 @@
-use Rattle.std.proofs.Common.{◌≡◌, ◌∙◌, ◌<◌, ◌-◌, ◌^◌, ℕ, Bool, ◌&&◌, true, false, [], ◌∷◌, ◌++◌, map, filter, length, Option, Some, None, ap, sym, refl, subst, arith}
+use Rattle.std.proofs.Common.{◌≡◌, ◌∙◌, ◌<◌, ℕ, true, [], ◌∷◌, ◌++◌, map, filter, length, Option, Some, None, ap, sym, refl, subst, arith}
 use Rattle.std.specs.Prelude.{IfSome}
-use Rattle.std.proofs.lemmas.Bool.{false≢true, ltb-true}
 use Rattle.std.specs.List.{range_with_len}
 use Rattle.span_id.specs.Id.{IsId}
 use Rattle.span_slots.specs.Table.{IsIssued}
@@ -22,6 +21,7 @@ use Rattle.span_core.specs.inside.Lent.{span_request}
 use Rattle.span_core.specs.Core.{CoreView}
 use Rattle.span_core.proofs.Made.{few_made, one_made}
 use Rattle.span_core.proofs.Clauses.{accepted_by}
+use Rattle.span_core.proofs.Judging.{PassesTests, tests_of, one_more_fits}
 use Rattle.span_core.proofs.Soundness.{IsOneMore, sound_made}
 use Rattle.span_core.proofs.NewSpans.{step_new, new_notes, not_open, not_in_history}
 use Rattle.span_core.proofs.KeptSummaries.{summary_new}
@@ -29,12 +29,16 @@ use Rattle.span_core.proofs.Core.make.Given as given
 use Rattle.span_core.proofs.Core.make.Goals as goal
 use Rattle.span_core.proofs.Core.make.Goals.{After-put}
 
+-- all tests hold
+tests : (g : given.Over) (c : After-put g) → PassesTests c.args.self.now (span_request c.args.new.now)
+tests g c = tests_of c.args.self.now (span_request c.args.new.now) c.requires.due
+
 -- what holds of the core before the call, said of its parts
 wanted : (g : given.Over) (c : After-put g) → is_wanted_meta c.self.inside.rules (meta_given c.args.new.now.meta) ≡ true
-wanted g c = subst (λ (v : CoreView). is_wanted_meta v.rules (meta_given c.args.new.now.meta) ≡ true) (sym c.self.view_is) c.requires.due.wanted
+wanted g c = subst (λ (v : CoreView). is_wanted_meta v.rules (meta_given c.args.new.now.meta) ≡ true) (sym c.self.view_is) (tests g c).wanted
 
 parent_open : (g : given.Over) (c : After-put g) → is_open_parent c.self.inside.forest.spans c.args.new.now.parent ≡ true
-parent_open g c = subst (λ (v : CoreView). is_open_parent v.world.spans c.args.new.now.parent ≡ true) (sym c.self.view_is) c.requires.due.known
+parent_open g c = subst (λ (v : CoreView). is_open_parent v.world.spans c.args.new.now.parent ≡ true) (sym c.self.view_is) (tests g c).known
 
 bits_are : (g : given.Over) (c : After-put g) → c.args.new.now.bits.0 ≡ admission_set c.self.inside.rules (meta_given c.args.new.now.meta).target (meta_given c.args.new.now.meta).level
 bits_are g c = subst (λ (v : CoreView). c.args.new.now.bits.0 ≡ admission_set v.rules (meta_given c.args.new.now.meta).target (meta_given c.args.new.now.meta).level) (sym c.self.view_is) c.requires.bits
@@ -80,15 +84,24 @@ call g c = record {
   sent = c.put.ensures.sent ∙ (λ j. c.in_ok-ask.ensures.sent j ++ (record { request = c.in_ok-call.ensures.call j; answer = made c.args.new.now.id; notes = map plain_note c.in_ok-call.field-0.notes.items }) ∷ []);
 }
 
-and_second : (p q : Bool) → (p && q) ≡ true → q ≡ true
-and_second true q h = h
-and_second false q h = absurd (false≢true h)
+pub overflow_add-self : goal.overflow_add-self
+overflow_add-self g c =
+    let same = ap (λ (v : CoreView). length v.sent) c.self.view_is in
+    let few = one_more_fits c.args.self.now (span_request c.args.new.now) c.requires.due in
+    omega (arith, c.self.invariant.0.calls_are, same, few)
+
+pub put-requires-clause-countable : goal.put-requires-clause-countable
+put-requires-clause-countable g c =
+    let asked = ap length c.in_ok-ask.ensures.sent in
+    let same = ap (λ (v : CoreView). length v.sent) c.self.view_is in
+    let few = one_more_fits c.args.self.now (span_request c.args.new.now) c.requires.due in
+    omega (arith, asked, same, few)
 
 pub overflow_add-self-2 : goal.overflow_add-self-2
 overflow_add-self-2 g c =
     let few = few_made _ _ _ _ c.self.invariant.0.legal in
     let same = ap (λ (v : CoreView). length v.sent) c.self.view_is in
-    let may : length c.args.self.now.sent < 2 ^ 64 - 1 = ltb-true _ _ (and_second _ _ c.requires.due.counts) in
+    let may = one_more_fits c.args.self.now (span_request c.args.new.now) c.requires.due in
     omega (arith, few, same, c.self.invariant.1, may)
 
 pub invariant_of-self-2 : goal.invariant_of-self-2

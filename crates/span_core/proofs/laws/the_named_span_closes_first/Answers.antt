@@ -10,4 +10,4 @@ returns-clause-try_close g c =
 pub returns-clause-exit : goal.returns-clause-exit
 returns-clause-exit g c =
     let w = whole _ _ _ _ c.what_was_sent_is_legal.ensures.legal in
-    λ worker id closed new accepted. named_by_exit _ _ _ _ worker id closed new.world w.settled c.entries_are_the_workers_inside.ensures accepted.step.changes accepted.due.known
+    λ worker id closed new accepted. named_by_exit _ _ _ _ worker id closed new.world w.settled c.entries_are_the_workers_inside.ensures accepted.step.changes accepted.step.changes.known
