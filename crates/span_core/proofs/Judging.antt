@@ -106,14 +106,7 @@ why_alike core one other Backlog same why = sym same ∙ why
 why_alike core one other Memory same why = sym same ∙ why
 why_alike core one other _ same why = sym same ∙ why
 
--- ---- what the clauses of a call tell of its names
-
-pub accepted_named : (old : CoreView) (request : Request) (answer : Answer) (new : CoreView) → IsAccepted old request answer new → is_named request ≡ true
-accepted_named old request answer new call = (tests_of old request call.due).named
-
+-- where a span isn't wanted, its names are names, and no rule admits it
 pub unwanted_named : (old : CoreView) (request : Request) (new : CoreView) → IsNotWanted old request new → (is_named request ≡ true) × (is_wanted_call old.rules request ≡ false)
 unwanted_named old request new call =
     one_fails (is_named request) (is_wanted_call old.rules request) (is_known old.world.spans request) (may_count old request && may_send old) (has_slot old request) (is_inside old.world request) call.not_wanted
-
-pub refused_unnamed : (old : CoreView) (request : Request) (fault : Fault) (new : CoreView) → IsRefused old request fault new → fault ≡ BadName → is_named request ≡ false
-refused_unnamed old request fault new call bad = tells old request BadName (subst (λ (f : Fault). WhyRefused old request f) bad call.why)

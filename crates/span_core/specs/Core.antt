@@ -86,7 +86,7 @@ pub data Judgement : Type 0 where
   unwanted : Judgement
   due : Judgement
 
--- A call is judged in this order, by the first test that fails; it is due where none does.
+-- A call is judged by the first of these tests that fails, in this order; it is due where none does.
 abbrev pub judged : CoreView → Request → Judgement
 judged core request =
     if not (is_named request) then refuses BadName else
@@ -103,7 +103,7 @@ IsDue core request = judged core request ≡ due
 
 -- ---- what the calls' contracts say of a call
 
--- why a call is refused: it was due, and the outlet had no place or memory was refused; else the core judged so
+-- why a call is refused: the core judged so; or the call was due, and the outlet had no place or memory was refused
 abbrev pub WhyRefused : CoreView → Request → Fault → Type 0
 WhyRefused core request Backlog = IsDue core request
 WhyRefused core request Memory = IsDue core request
@@ -137,7 +137,7 @@ pub record IsAccepted (old : CoreView) (request : Request) (answer : Answer) (ne
   pub forms : new.forms ≡ old.forms
   pub name : new.name ≡ old.name
 
--- no layer wants the span, as far as the core judged the call, and nothing changed
+-- a span was not wanted: the core judged so, and nothing changed
 pub record IsNotWanted (old : CoreView) (request : Request) (new : CoreView) : Type 0 where
   pub not_wanted : judged old request ≡ unwanted
   pub same : new ≡ old

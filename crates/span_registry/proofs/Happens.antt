@@ -1,18 +1,13 @@
 -- What a call did where the lock was free happened in the registry's one history.
-use Rattle.std.proofs.Common.{◌≡◌, ℕ, true, false, Option, List, subst}
-use Rattle.std.specs.Prelude.{Result, Ok, Err, OnOk, IfErr}
-use Rattle.span_id.specs.declared.fault.Fault.{Fault}
-use Rattle.span_id.specs.declared.fault.Fault.TheVariants.{BadName}
+use Rattle.std.proofs.Common.{◌≡◌, ℕ, Option, List, subst}
 use Rattle.span_id.specs.declared.limits.Limits.{Limits}
 use Rattle.span_layers.specs.Filter.{Filter}
 use Rattle.span_layers.specs.declared.form.Form.{Form}
 use Rattle.span_history.specs.Own.{IsFront}
 use Rattle.span_outlet.specs.Outlet.{RingName}
-use Rattle.span_outlet.specs.Request.{Request, Answer}
 use Rattle.span_outlet.specs.Batch.{PlainBatch}
 use Rattle.span_core.specs.History.{IsLegal}
-use Rattle.span_core.specs.Core.{CoreView, is_named, IsAccepted, IsRefused}
-use Rattle.span_core.proofs.Judging.{accepted_named, refused_unnamed}
+use Rattle.span_core.specs.Core.{CoreView}
 use Rattle.span_seats.specs.declared.view.RootView.{RootView}
 use Rattle.span_registry.specs.Worker.{WorkerView, front_of}
 use Rattle.span_registry.specs.Locked.{HoldsWhenFree}
@@ -46,14 +41,3 @@ happened_here {core = core} {before = before} {new = new} free told did = record
   legal_after = told.legal;
   within_after = told.within;
 }
-
--- what happened tells of the names of a call: they are names where it was accepted, and not where it was refused so
-pub named_where_done : {T E : Type 0} (r : Result T E) (limits : Limits) (rules : List Filter) (before after : WorkerView) (request : Request) (answer : Answer)
-    → OnOk r (Happened limits rules before after (λ old new. IsAccepted old request answer new)) → OnOk r (is_named request ≡ true)
-named_where_done (Ok x) limits rules before after request answer did = accepted_named did.old request answer did.new did.step_is
-named_where_done (Err e) limits rules before after request answer did = tt
-
-pub unnamed_where_refused : {T : Type 0} (r : Result T Fault) (limits : Limits) (rules : List Filter) (before after : WorkerView) (request : Request)
-    → IfErr r (λ fault. Happened limits rules before after (λ old new. IsRefused old request fault new)) → IfErr r (λ fault. fault ≡ BadName → is_named request ≡ false)
-unnamed_where_refused (Ok x) limits rules before after request did = tt
-unnamed_where_refused (Err fault) limits rules before after request did = refused_unnamed did.old request fault did.new did.step_is
