@@ -3,9 +3,9 @@ use Rattle.std.proofs.Common.{◌≡◌, ◌≢◌, ◌<◌, ◌-◌, ◌^◌, B
 use Rattle.std.proofs.lemmas.Bool.{false≢true, ltb-true}
 use Rattle.span_id.specs.declared.fault.Fault.{Fault}
 use Rattle.span_id.specs.declared.fault.Fault.TheVariants.{Unknown, CountFull, Full, NotEntered, BadName, Backlog, Memory}
-use Rattle.span_outlet.specs.Request.{Request, Answer}
+use Rattle.span_outlet.specs.Request.{Request}
 use Rattle.span_core.specs.Step.{is_wanted_call, is_known, is_inside}
-use Rattle.span_core.specs.Core.{CoreView, is_named, may_count, may_send, has_slot, Judgement, refuses, unwanted, due, judged, IsDue, WhyRefused, IsAccepted, IsRefused, IsNotWanted}
+use Rattle.span_core.specs.Core.{CoreView, is_named, may_count, may_send, has_slot, Judgement, refuses, unwanted, due, judged, IsDue, WhyRefused, IsNotWanted}
 
 -- ---- what is judged, of the results of the tests
 
