@@ -1,6 +1,7 @@
 -- A new span under a parent that isn't open is refused alike, whichever such parent it is.
 use Rattle.std.proofs.Common.{◌≡◌, ℕ, ◌∙◌, Bool, true, false, List, Some, sym, subst, refl}
 use Rattle.std.proofs.lemmas.Bool.{true≢false}
+use Rattle.span_id.specs.declared.fault.Fault.TheVariants.{Unknown, CountFull, Full, NotEntered, TooManyLayers, BadName, Backlog, BadLimits, Memory}
 use Rattle.span_id.specs.Meta.{PlainMeta, KeyValue}
 use Rattle.span_outlet.specs.declared.batch.ParentOf.{ParentOf}
 use Rattle.span_outlet.specs.declared.batch.ParentOf.TheVariants.{Root, Current, Of}
@@ -20,15 +21,15 @@ module _ (old new : CoreView) (worker : ℕ) (meta : PlainMeta) (fields : List K
   abbrev under : ℕ → Request
   under id = new_span worker meta fields (Some id)
 
-  alike : judged old (under a) ≡ judged old (under b)
-  alike = judged_alike old (under a) (under b) refl refl closed closed'
+  same_judgement : judged old (under a) ≡ judged old (under b)
+  same_judgement = judged_alike old (under a) (under b) refl refl closed closed'
 
   closed_alike : (made : ℕ) (status : Status) → IsMadeOrRefused (under a) made old status new → IsMadeOrRefused (under b) made old status new
   closed_alike made Done is = (
-    λ none. let unwanted = is.0 none in record { not_wanted = sym alike ∙ unwanted.not_wanted; same = unwanted.same },
+    λ none. let unwanted = is.0 none in record { not_wanted = sym same_judgement ∙ unwanted.not_wanted; same = unwanted.same },
     λ some. absurd (true≢false (sym (is.1 some).0.step.changes.known ∙ closed)),
   )
-  closed_alike made (Refused fault) is = record { why = why_alike old (under a) (under b) fault alike is.why; unchanged = is.unchanged }
+  closed_alike made (Refused fault) is = record { why = why_alike old (under a) (under b) fault same_judgement is.why; unchanged = is.unchanged }
   closed_alike made BadData is = absurd is
   closed_alike made EmptyHandle is = absurd is
   closed_alike made HandleInUse is = absurd is
