@@ -228,8 +228,8 @@ legal : IsLegal [] 1 (made_a ∷ batch (try_close 0 1) (released (1 ∷ [])) ∷
 legal =
     more (batch (try_close 0 1) (released (1 ∷ [])))
     (more made_a none
-    (record { within = omega arith; changes = record { in_layout = (omega arith, omega arith); not_issued = refl; wanted = refl; parent_open = refl; after = refl }; notes_are = refl }) refl)
-    (record { within = omega arith; changes = record { held = omega arith; closed_are = refl; after = refl }; notes_are = refl })
+    (record { within = omega arith; changes = record { wanted = refl; known = refl; inside = refl; id = 1; answer_is = refl; id_is_new = ((omega arith, omega arith), refl); after = refl }; notes_are = refl }) refl)
+    (record { within = omega arith; changes = record { wanted = refl; known = refl; inside = refl; id = 0; answer_is = refl; id_is_new = tt; after = refl }; notes_are = refl })
     refl
 
 -- the lines of a history: the number of the batch, the place in it, the layer, and the text

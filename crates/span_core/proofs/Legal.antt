@@ -29,6 +29,8 @@ use Rattle.span_core.specs.Step.{Changes}
 use Rattle.span_core.specs.History.{issued, id_issued, IsLegal}
 use Rattle.span_core.specs.History.IsLegal.{none, more}
 use Rattle.span_core.specs.ClosedSpans.{closed_by, closed_in}
+use Rattle.span_core.proofs.Deciding.{held_from}
+use Rattle.span_core.proofs.Steps.{answered}
 use Rattle.span_core.proofs.Worlds.{has-push, has-without_last}
 use Rattle.span_core.proofs.Effects.{IsMild, effect, open_held}
 use Rattle.span_core.proofs.Effects.Effect.{stays, changes, makes, frees}
@@ -213,7 +215,7 @@ stack_step rules ids old (enter worker id) (entered first) new h w j there =
       | inl before ↦ inl before
       | inr pushed ↦ either (has (stack_of old worker) j) (id == j) ((has (stack_of old w) j ≡ true) ⊎ IsOpen old.spans j) (sym (has-push (stack_of old worker) id j) ∙ pushed.1)
           (λ before. inl (ap (λ k. has (stack_of old k) j) pushed.0 ∙ before))
-          (λ same. inr (subst (λ k. IsOpen old.spans k) (eqb-true id j same) (open_held old.spans id Handle h.held)))
+          (λ same. inr (subst (λ k. IsOpen old.spans k) (eqb-true id j same) (open_held old.spans id Handle (held_from old.spans id h.known))))
     ]
 stack_step rules ids old (exit worker id) (exited closed) new h w j there =
     elim (stack_set old.stacks worker w j (without_last (stack_of old worker) id) (ap (λ (v : World). has (stack_of v w) j) (sym h.after) ∙ there)) [
@@ -226,7 +228,7 @@ stack_step rules ids old (exit worker id) (exited closed) new h w j there =
 stack_step rules ids old (try_close worker id) (released closed) new h w j there = inl (ap (λ (v : World). has (stack_of v w) j) (sym h.after) ∙ there)
 stack_step rules ids old (record_fields worker id fields) recorded new h w j there = inl (ap (λ (v : World). has (stack_of v w) j) (sym h.after) ∙ there)
 stack_step rules ids old (event worker meta message fields parent) told new h w j there = inl (ap (λ (v : World). has (stack_of v w) j) (sym h.after) ∙ there)
-stack_step rules ids old _ _ new h w j there = absurd h
+stack_step rules ids old _ _ new h w j there = absurd (false≢true (answered h))
 
 -- ---- a history
 

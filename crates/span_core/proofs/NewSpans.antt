@@ -16,8 +16,8 @@ use Rattle.span_layers.specs.declared.note.Kind.TheVariants.{OnNew}
 use Rattle.span_id.specs.Meta.{KeyValue, PlainMeta}
 use Rattle.span_layers.specs.declared.note.Note.{Note}
 use Rattle.span_layers.specs.Note.{PlainNote, plain_note}
-use Rattle.span_layers.specs.Filter.{Filter, layer_wants}
-use Rattle.span_forest.specs.Node.{Node}
+use Rattle.span_layers.specs.Filter.{Filter, layer_wants, admission_set}
+use Rattle.span_forest.specs.Node.{Node, new_node}
 use Rattle.span_forest.specs.Spans.{Spans, find, IsOpen, with_node, parent_in, parent_of}
 use Rattle.span_forest.specs.declared.span.Holder.TheVariants.{Entry}
 use Rattle.span_forest.specs.Holders.{held_in}
@@ -29,7 +29,7 @@ use Rattle.span_forest.proofs.Adds.{find-with_same, find-with_other}
 use Rattle.span_core.specs.World.{IsWorld}
 use Rattle.span_outlet.specs.Request.{new_span, made}
 use Rattle.span_outlet.specs.Batch.{PlainBatch}
-use Rattle.span_core.specs.Step.{is_open_parent, IsStep, is_wanted_meta, made_node}
+use Rattle.span_core.specs.Step.{is_open_parent, IsStep, is_wanted_meta}
 use Rattle.span_core.specs.History.{issued}
 use Rattle.span_core.specs.NextId.{next_id_after}
 use Rattle.span_core.specs.Happening.{at_span, is_told, note_of, notes_of, notes_of_all, path_at}
@@ -170,17 +170,19 @@ world_new spans id node stacks gone none whole = record { entered = λ j. same j
 
 pub step_new : (rules : List Filter) (ids : List ℕ) (spans new_spans : Spans) (stacks : List (List ℕ)) (worker id : ℕ) (meta : PlainMeta) (fields : List KeyValue) (parent : Option ℕ) (notes : List PlainNote)
     → worker < length stacks → IsId id → stands_in id ids ≡ false → is_wanted_meta rules meta ≡ true → is_open_parent spans parent ≡ true
-    → new_spans ≡ with_node spans id (made_node rules meta fields parent)
+    → new_spans ≡ with_node spans id (new_node meta fields parent (admission_set rules meta.target meta.level))
     → notes ≡ notes_of_all rules worker (at_span new_spans OnNew id fields ∷ [])
     → IsStep rules ids (record { spans = spans; stacks = stacks }) (new_span worker meta fields parent) (made id) notes (record { spans = new_spans; stacks = stacks })
 step_new rules ids spans new_spans stacks worker id meta fields parent notes within in_layout not_issued wanted there spans_are notes_are =
     record {
       within = within;
       changes = record {
-        in_layout = in_layout;
-        not_issued = not_issued;
         wanted = wanted;
-        parent_open = there;
+        known = there;
+        inside = refl;
+        id = id;
+        answer_is = refl;
+        id_is_new = (in_layout, not_issued);
         after = λ j. record { spans = spans_are j; stacks = stacks };
       };
       notes_are = notes_are;
