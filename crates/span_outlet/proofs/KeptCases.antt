@@ -18,7 +18,7 @@ use Rattle.span_outlet.specs.Drain.{DrainView, TakesBatch}
 
 -- worker 0 entered span 1, whose name is `a`
 abbrev note : ℕ → PlainNote
-note layer = record { layer = layer; kind = OnEnter; worker = 0; id = 1; path = codes "a"; fields = []; tail = None }
+note layer = record { layer = layer; kind = OnEnter; worker = 0; id = 1; path = codes "a"; fields = []; event = None }
 
 abbrev at : ℕ → ℕ → ℕ → NumberedNote
 at batch place layer = record { batch = batch; place = place; note = note layer }

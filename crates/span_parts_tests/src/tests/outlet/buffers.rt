@@ -71,7 +71,7 @@ fn event(rt: &impl Abort, alloc: Global, bytes: usize) -> Note {
         id: 0,
         path: ArcStr::from_str(alloc, "-").expect(rt, "memory"),
         fields: Fields::none(),
-        tail: Some((
+        event: Some((
             Level::Info,
             ArcStr::from_string(message).expect(rt, "memory"),
         )),
