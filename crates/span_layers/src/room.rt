@@ -15,7 +15,7 @@ const COMPACT_HEAD: usize = 4;
 const COMPACT_PAIR: usize = 2;
 
 // The blanks before the level and the message.
-const COMPACT_TOLD: usize = 2;
+const COMPACT_EVENT: usize = 2;
 
 // Room for what is escaped in bytes that the compact form doesn't look at.
 const COMPACT_SPARE: usize = 15;
@@ -38,7 +38,7 @@ pub(crate) fn compact_room(note: &Note) -> usize {
     let mut room = head.saturating_add(note.path.len());
     if let Some((level, message)) = event_shown(note) {
         room = room
-            .saturating_add(COMPACT_TOLD)
+            .saturating_add(COMPACT_EVENT)
             .saturating_add(level.name().len())
             .saturating_add(compact_len(message.as_bytes()));
     }
