@@ -127,7 +127,7 @@ fn are_kept(rt: &impl Abort, alloc: Global, case: &Case) {
     let mut latest = with_room(rt, alloc, room);
     send_texts(rt, alloc, &mut latest, first);
     send_texts(rt, alloc, &mut latest, second);
-    let found = (with_capacity(latest.lines(), bytes), latest.refused());
+    let found = (with_capacity(latest.lines(), bytes), latest.missed());
     same(rt, found, (buffers, 0), bytes);
 }
 
