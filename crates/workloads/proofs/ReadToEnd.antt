@@ -129,7 +129,7 @@ pub of_history : (sent history : List PlainBatch) (reader : LineReaderView) → 
 of_history sent history reader is has = subst (λ bs. HasGiven bs reader) is has
 
 pub ends_read_out : (limits : Limits) (rules : List Filter) (share : ShareView) (first back last : LineReaderView) (ended : Ended) (lines rest : ℕ) → first.given ≡ []
-    → HasReadOn first back lines → HasReadOn back last rest → IsReadOut limits rules share ended.counts last → ended.lines ≡ min (lines + rest) (2 ^ 64 - 1) → ended.missed ≡ last.refused
+    → HasReadOn first back lines → HasReadOn back last rest → IsReadOut limits rules share ended.counts last → ended.lines ≡ min (lines + rest) (2 ^ 64 - 1) → ended.missed ≡ last.missed
     → EndsReadOut limits rules first.forms ended
 ends_read_out limits rules share first back last ended lines rest empty on further read sum misses =
     let all = read_on first back last lines rest ended.lines on further sum in
