@@ -6,7 +6,7 @@ use Rattle.rtrb.specs.declared.consumer.Consumer.{Consumer}
 use Rattle.span_outlet.specs.Outlet.{RingIdentity, RingName}
 
 -- the name that an end tells: of the crate's numbers the first is how many places there are
-abbrev name_of_end : {T P : Type 0} → End T Global P → RingName
+abbrev pub name_of_end : {T P : Type 0} → End T Global P → RingName
 name_of_end end =
     record {
       places = end.names.0;
