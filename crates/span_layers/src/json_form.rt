@@ -10,7 +10,7 @@ ghost use Rattle.span_layers.specs.inside.Tokens.{Appends, start_tokens, end_tok
 mod members;
 mod pairs;
 
-use crate::json_form::members::{write_number, write_text, write_event};
+use crate::json_form::members::{write_event, write_number, write_text};
 use crate::json_form::pairs::write_fields;
 use crate::note::Note;
 use crate::room::json_room;

@@ -9,8 +9,8 @@ ghost use Rattle.span_outlet.specs.Drain.{TakesBatch};
 
 use crate::layer_lines::LayerLines;
 use crate::line::Line;
-use crate::ring::{Consuming, Ring, Tap};
 use crate::note_lines::NoteLines;
+use crate::ring::{Consuming, Ring, Tap};
 use span_layers::{Formatters, Say, Tellers};
 use std::alloc::Global;
 use std::marker::Model;

@@ -6,8 +6,8 @@ ghost use Rattle.span_outlet.specs.Kept.{AreKept, AreTold, GainsLines, HasNoLine
 
 use crate::batch::Batch;
 use crate::line::Line;
-use crate::outlet::Outlet;
 use crate::note_lines::NoteLines;
+use crate::outlet::Outlet;
 use span_layers::{Formatters, Say, Tellers};
 use std::alloc::{AllocError, Global};
 use std::marker::Model;

@@ -11,8 +11,8 @@ ghost use Rattle.span_outlet.specs.inside.Reading.{reader_view, HaveNotes};
 
 use crate::given_out::GivenOut;
 use crate::line::Line;
-use crate::ring::{Consuming, Ring, Tap};
 use crate::note_lines::NoteLines;
+use crate::ring::{Consuming, Ring, Tap};
 use span_known::KnownValue;
 use span_layers::{Formatters, Note, Say, Tellers};
 use std::alloc::Global;
@@ -243,7 +243,11 @@ impl<V> LineReader<V> {
         ensures rest { self.new ≡ record self.old { given = self.new.given; waiting = self.new.waiting } }
         ensures left { AreLeft self.new }
     {
-        let LineReader { note_lines, given, .. } = self;
+        let LineReader {
+            note_lines,
+            given,
+            ..
+        } = self;
         let line = note_lines.lines.pop()?;
         GivenOut::add(given, &line);
         Some(line)
