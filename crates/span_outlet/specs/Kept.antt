@@ -1,5 +1,5 @@
 -- What the outlet that keeps lines has of a history.
-use Rattle.std.specs.Prelude.{◌≡◌, ℕ, ◌+◌, ◌-◌, ◌^◌, ◌≤◌, Bool, List, [], ◌∷◌, ◌++◌, map, flat_map, length, min, slice_get, All, Some, None}
+use Rattle.std.specs.Prelude.{◌≡◌, ℕ, ◌+◌, ◌-◌, ◌^◌, ◌≤◌, List, [], ◌∷◌, ◌++◌, map, flat_map, length, min, slice_get, All, Some, None}
 use Rattle.std.specs.List.{enumerate_from}
 use Rattle.std.specs.declared.alloc.AllocError.{AllocError}
 use Rattle.span_layers.specs.declared.form.Form.{Form}

@@ -3,7 +3,7 @@ use Rattle.std.specs.declared.alloc.Global.{Global}
 use Rattle.rtrb.specs.declared.end.End.{End}
 use Rattle.rtrb.specs.declared.producer.Producer.{Producer}
 use Rattle.rtrb.specs.declared.consumer.Consumer.{Consumer}
-use Rattle.span_outlet.specs.Outlet.{RingIdentity, RingName}
+use Rattle.span_outlet.specs.Outlet.{RingName}
 
 -- the name that an end tells: of the crate's numbers the first is how many places there are
 abbrev pub name_of_end : {T P : Type 0} → End T Global P → RingName
