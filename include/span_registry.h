@@ -280,7 +280,7 @@ uint32_t span_drain_note(SpanDrain *drain, SpanNote *note, SpanField *fields, si
 uint32_t span_drain_skip_batch(SpanDrain *drain, size_t *skipped);
 
 /* How many batches were taken, and how many notes were missed for want of memory. */
-uint32_t span_drain_counts(SpanDrain *drain, uint64_t *batches, uint64_t *refused);
+uint32_t span_drain_counts(SpanDrain *drain, uint64_t *batches, uint64_t *missed);
 
 /* Gives the memory back, and the handle is empty. The registry may still be used until the ring is full. */
 uint32_t span_drain_free(SpanDrain *drain);

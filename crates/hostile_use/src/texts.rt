@@ -82,7 +82,7 @@ pub(crate) fn note_of(
         id,
         path,
         fields,
-        tail: tail_of(alloc, kind)?,
+        event: event_of(alloc, kind)?,
     })
 }
 
@@ -96,7 +96,7 @@ fn place_of(kind: Kind) -> (u64, &'static str) {
 }
 
 // What only the note of an event has.
-fn tail_of(alloc: Global, kind: Kind) -> Result<Option<(Level, ArcStr)>, Stop> {
+fn event_of(alloc: Global, kind: Kind) -> Result<Option<(Level, ArcStr)>, Stop> {
     if kind == Kind::OnEvent {
         Ok(Some((Level::Warn, ArcStr::from_str(alloc, "x\ny")?)))
     } else {

@@ -118,7 +118,7 @@ new_notes rules worker id spans new_spans node fields notes gone whole there are
         (λ k. ap (λ b. has_bit b k && layer_wants rules k OnNew) (sym bits_are))
         (λ k told_k. let admitted = and_first (has_bit node.bits k) (layer_wants rules k OnNew) told_k in
         let p = ap path_text (sym (new_path spans id node k gone whole there admitted)) in
-        λ j. record { layer = k; kind = OnNew; worker = worker; id = id; path = p j; fields = fields; tail = None })
+        λ j. record { layer = k; kind = OnNew; worker = worker; id = id; path = p j; fields = fields; event = None })
         (range_with_len 0 (length rules))
 
 -- the path that each of them tells is what its layer reads at the span once it is there

@@ -2,14 +2,14 @@
 ghost use Rattle.std.specs.Prelude.{◌≡◌, ◌<◌, ◌++◌, ◌∷◌, [], if◌then◌else◌, map, flat_map, length, IfOk, OnOk, IfErr, Some};
 ghost use Rattle.std.specs.Arc.{arc_str_bytes};
 ghost use Rattle.span_layers.specs.declared.note.Kind.TheVariants.{OnExit};
-ghost use Rattle.span_layers.specs.Note.{plain_note, told_of};
+ghost use Rattle.span_layers.specs.Note.{plain_note, plain_event};
 ghost use Rattle.span_forest.specs.Node.{node_of};
 ghost use Rattle.span_forest.specs.Spans.{IsOpen, find};
 ghost use Rattle.span_forest.specs.Path.{path_text};
 ghost use Rattle.span_outlet.specs.Request.{record_fields, request_of};
 ghost use Rattle.span_core.specs.Happening.{at_span, close_of, bits_in, notes_of, notes_of_all, path_at};
 ghost use Rattle.span_core.specs.inside.ClosingPaths.{IsChain};
-ghost use Rattle.span_core.specs.inside.Telling.{id_told, place_told, tail_told, text_told, told_to, IsSummarised, IsThere, IsReadable, notes_told, Knows};
+ghost use Rattle.span_core.specs.inside.Telling.{id_told, place_told, event_said, text_told, told_to, IsSummarised, IsThere, IsReadable, notes_told, Knows};
 ghost use Rattle.span_core.specs.inside.Remembering.{Remembers};
 
 pub(crate) mod closing;
@@ -131,9 +131,9 @@ fn path_of(
     }
 }
 
-// An event's level and its message.
-fn tail(subject: &Subject<'_>) -> Result<Option<(Level, ArcStr)>, Fault>
-    ensures tail { IfOk result (λ tail. told_of arc_str_bytes tail ≡ tail_told subject.now) }
+// What an event says: its level and its message.
+fn event_said(subject: &Subject<'_>) -> Result<Option<(Level, ArcStr)>, Fault>
+    ensures said { IfOk result (λ event. plain_event arc_str_bytes event ≡ event_said subject.now) }
     ensures memory { IfErr result (λ fault. fault ≡ Fault.Memory) }
 {
     match subject {
@@ -165,7 +165,7 @@ fn note(
     let place = place_of(forest, &what.subject, layer, &mut recent.in_vain);
     let path = path_of(recent, forest, &what.subject, paths, layer, &place)?;
     let fields = what.fields.share()?;
-    let tail = tail(&what.subject)?;
+    let event = event_said(&what.subject)?;
     Ok(Note {
         layer,
         kind: what.kind,
@@ -173,7 +173,7 @@ fn note(
         id: id_of(&what.subject, &place),
         path,
         fields,
-        tail,
+        event,
     })
 }
 

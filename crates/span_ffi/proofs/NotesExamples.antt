@@ -19,11 +19,11 @@ event = record {
   id = 5;
   path = codes "ab:c";
   fields = (codes "k", codes "vv") ∷ [];
-  tail = Some (Warn, codes "hi");
+  event = Some (record { level = Warn; message = codes "hi" });
 }
 
 abbrev exit : PlainNote
-exit = record { layer = 0; kind = OnExit; worker = 3; id = 5; path = codes "ab"; fields = []; tail = None }
+exit = record { layer = 0; kind = OnExit; worker = 3; id = 5; path = codes "ab"; fields = []; event = None }
 
 abbrev numbers : SpanNote
 numbers = record { batch = 7; id = 5; layer = 2; kind = 2; worker = 1; level = 1; path_len = 4; message_len = 2 }

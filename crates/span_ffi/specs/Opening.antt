@@ -7,7 +7,6 @@ use Rattle.span_layers.specs.declared.form.Form.{Form}
 use Rattle.span_layers.specs.declared.form.Form.TheVariants.{Compact, Json}
 use Rattle.span_layers.specs.Rule.{Pair}
 use Rattle.span_layers.specs.Filter.{Filter}
-use Rattle.span_outlet.specs.Ring.{places_of}
 use Rattle.span_outlet.specs.LineReader.{LineReaderView}
 use Rattle.span_core.specs.World.{empty_world}
 use Rattle.span_ffi.specs.declared.data.SpanLimits.{SpanLimits}
@@ -84,7 +83,7 @@ pub record AreNew
   pub in_range : AreInRange (said_limits limits)
   pub few : length layers ≤ 64
   pub said : AreLayers layers rules bytes
-  pub places : places_of reader.name ≡ limits.ring
+  pub places : reader.name.places ≡ limits.ring
   pub core_is : registry.core ≡ record {
     limits = said_limits limits;
     rules = said_filters layers rules bytes;
@@ -102,7 +101,7 @@ pub record AreNew
     taken = [];
     given = [];
     waiting = [];
-    refused = 0;
+    missed = 0;
   }
 
 -- Why there is no new registry. Data that say nothing are told as such, also where memory is short.

@@ -9,7 +9,6 @@ ghost use Rattle.span_layers.specs.Rule.{pair_of, pairs_of};
 ghost use Rattle.span_layers.specs.Filter.{filter_of};
 ghost use Rattle.span_layers.specs.FmtSpan.{bits_of};
 ghost use Rattle.span_layers.specs.Layers.{filters_in, forms_in};
-ghost use Rattle.span_outlet.specs.Ring.{places_of};
 ghost use Rattle.span_core.specs.World.{empty_world};
 ghost use Rattle.span_ffi.specs.Data.{BeginsWithText, said_level};
 ghost use Rattle.span_ffi.specs.Opening.{AreRules, said_pairs, behind_rules, said_form, IsLayer, AreLayers};
@@ -253,9 +252,9 @@ fn make(
       taken = [];
       given = [];
       waiting = [];
-      refused = 0;
+      missed = 0;
     }) }
-    ensures places { IfOk result (λ made. places_of made.1.value.name ≡ checked.now.ring) }
+    ensures places { IfOk result (λ made. made.1.value.name.places ≡ checked.now.ring) }
     ensures memory { IfErr result (λ fault. fault ≡ Fault.Memory) }
 {
     let Ok((ring, tap)) = Ring::pair(alloc, checked) else {

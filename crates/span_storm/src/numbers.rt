@@ -62,7 +62,7 @@ pub fn show<W: Write>(
         },
         Row {
             label: "refused",
-            number: report.refused,
+            number: report.missed,
         },
         Row {
             label: "left",

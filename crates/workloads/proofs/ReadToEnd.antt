@@ -3,10 +3,10 @@ use Rattle.std.proofs.Common.{◌≡◌, ℕ, ◌+◌, ◌-◌, ◌^◌, ◌<◌
 use Rattle.std.proofs.lemmas.List.{append-nil}
 use Rattle.std.specs.Prelude.{take}
 use Rattle.std.proofs.Math.Seq.{take-length}
-use Rattle.span_outlet.specs.LineReader.{LineReaderView, TakesBatches, HasGiven, numbered_from}
+use Rattle.span_outlet.specs.LineReader.{LineReaderView, TakesBatches, HasGiven}
 use Rattle.span_outlet.specs.Batch.{PlainBatch}
 use Rattle.span_outlet.specs.Lines.{PlainLine}
-use Rattle.span_outlet.specs.Kept.{AreTold, NumberedNote}
+use Rattle.span_outlet.specs.Kept.{AreTold, NumberedNote, numbered_from}
 use Rattle.span_outlet.specs.Kept.AreTold.{none, told, missed}
 use Rattle.span_layers.specs.declared.form.Form.{Form}
 use Rattle.span_id.specs.declared.limits.Limits.{Limits}
@@ -31,7 +31,7 @@ pub more_taken : (old new : LineReaderView) → old.waiting ≡ [] → TakesBatc
 more_taken old new nothing takes some =
     let gains = takes.gains in
     let lines : length new.waiting ≡ length gains.added = ap length (gains.lines_are ∙ ap (λ ls. ls ++ gains.added) nothing) in
-    let batches = a_batch old.forms (length old.taken) takes.batches gains.added gains.missed gains.each (omega (arith, lines, some)) in
+    let batches = a_batch old.forms (length old.taken) takes.batches gains.added gains.missed_notes gains.each (omega (arith, lines, some)) in
     let longer : length new.taken ≡ length old.taken + length takes.batches = ap length takes.taken ∙ length-append old.taken takes.batches in
     omega (arith, longer, batches)
 
@@ -129,7 +129,7 @@ pub of_history : (sent history : List PlainBatch) (reader : LineReaderView) → 
 of_history sent history reader is has = subst (λ bs. HasGiven bs reader) is has
 
 pub ends_read_out : (limits : Limits) (rules : List Filter) (share : ShareView) (first back last : LineReaderView) (ended : Ended) (lines rest : ℕ) → first.given ≡ []
-    → HasReadOn first back lines → HasReadOn back last rest → IsReadOut limits rules share ended.counts last → ended.lines ≡ min (lines + rest) (2 ^ 64 - 1) → ended.missed ≡ last.refused
+    → HasReadOn first back lines → HasReadOn back last rest → IsReadOut limits rules share ended.counts last → ended.lines ≡ min (lines + rest) (2 ^ 64 - 1) → ended.missed ≡ last.missed
     → EndsReadOut limits rules first.forms ended
 ends_read_out limits rules share first back last ended lines rest empty on further read sum misses =
     let all = read_on first back last lines rest ended.lines on further sum in

@@ -41,4 +41,4 @@ pub record EndsReadOut (limits : Limits) (rules : List Filter) (forms : List For
   pub read : IsReadOut limits rules share ended.counts reader
   pub forms_are : reader.forms ≡ forms
   pub lines : ended.lines ≡ min (2 ^ 64 - 1) (length reader.given)
-  pub missed : ended.missed ≡ reader.refused
+  pub missed : ended.missed ≡ reader.missed

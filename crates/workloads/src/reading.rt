@@ -137,7 +137,7 @@ pub fn read_to_end<V: Say>(reader: &mut LineReader<V>, ring: &mut Ring) -> u64
     ensures taken { reader.new.taken ≡ ring.old.sent }
     ensures waiting { reader.new.waiting ≡ [] }
     ensures given { HasGiven ring.old.sent reader.new }
-    ensures whole { reader.new.refused ≡ 0 → reader.new.given ≡ lines_of reader.new.forms ring.old.sent }
+    ensures whole { reader.new.missed ≡ 0 → reader.new.given ≡ lines_of reader.new.forms ring.old.sent }
     ensures lines { HasReadOn reader.old reader.new result }
 {
     let mut lines = read_waiting(reader);

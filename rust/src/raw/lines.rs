@@ -97,11 +97,11 @@ impl Lines {
 
     /// How many batches were taken, and how many notes were missed for want of memory.
     pub(crate) fn counts(&mut self) -> (u64, u64) {
-        let (mut batches, mut refused) = (0, 0);
+        let (mut batches, mut missed) = (0, 0);
         // SAFETY: the handle is full and lent to this call alone, and both numbers are this call's.
-        let status = unsafe { span_drain_counts(&mut self.handle, &mut batches, &mut refused) };
+        let status = unsafe { span_drain_counts(&mut self.handle, &mut batches, &mut missed) };
         debug_assert_eq!(status, OK);
-        (batches, refused)
+        (batches, missed)
     }
 }
 

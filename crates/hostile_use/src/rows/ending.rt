@@ -70,13 +70,13 @@ pub(crate) fn tell_end<R: Print>(stage: &Stage<R>, report: &Report, is_told: boo
         made,
         closed,
         lines,
-        refused,
+        missed,
     } = report;
     stage.wrote(println!(stage.rt;
         "left {left} handles {handles} entries {entries} calls {calls} made {made} closed {closed}"
     ));
     let told = lines.len() as u64;
-    stage.wrote(println!(stage.rt; "lines and missed: {}", refused.saturating_add(told)));
+    stage.wrote(println!(stage.rt; "lines and missed: {}", missed.saturating_add(told)));
     tell_lines(stage, lines.as_slice());
 }
 

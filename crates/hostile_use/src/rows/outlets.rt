@@ -21,7 +21,7 @@ pub(crate) trait Lines {
 
 impl<V> Lines for Kept<V> {
     fn counted(&self) -> (u64, u64) {
-        (self.batches().len() as u64, self.refused())
+        (self.batches().len() as u64, self.missed())
     }
 
     fn told(&self) -> &[Line] {
@@ -31,7 +31,7 @@ impl<V> Lines for Kept<V> {
 
 impl<V> Lines for Latest<V> {
     fn counted(&self) -> (u64, u64) {
-        (self.sent(), self.refused())
+        (self.sent(), self.missed())
     }
 
     fn told(&self) -> &[Line] {

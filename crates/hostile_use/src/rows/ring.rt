@@ -64,7 +64,7 @@ impl<'r, 'n, H: Ledger, C: Ledger, S: Setup, V: Say, A: Admit, R: Wait> Subject<
 }
 
 fn add_drain<V>(text: &mut String, drain: &Drain<V>) -> Result<(), AllocError> {
-    add_numbers(text, &[drain.taken(), drain.refused()])?;
+    add_numbers(text, &[drain.taken(), drain.missed()])?;
     add_lines(text, drain.all())
 }
 
@@ -77,7 +77,7 @@ fn drained<V: Say>(drain: &mut Drain<V>, asked: &Asked) -> Answer
         Asked::Taken => Answer::Number(drain.taken()),
         Asked::Lines => {
             let told = drain.lines(0).count() as u64;
-            Answer::Number(drain.refused().saturating_add(told))
+            Answer::Number(drain.missed().saturating_add(told))
         }
     }
 }
@@ -85,7 +85,7 @@ fn drained<V: Say>(drain: &mut Drain<V>, asked: &Asked) -> Answer
 // How many notes the batch of a step had.
 fn notes_of(step: Option<Step>) -> Answer {
     match step {
-        Some(step) => Answer::Number((step.told as u64).saturating_add(step.refused as u64)),
+        Some(step) => Answer::Number((step.told as u64).saturating_add(step.missed as u64)),
         None => Answer::Nothing,
     }
 }

@@ -4,7 +4,7 @@ use Rattle.std.specs.Prelude.{◌≡◌, ℕ, ◌-◌, List, [], ◌∷◌, ◌+
 use Rattle.std.specs.Arc.{arc_str_bytes}
 use Rattle.std.specs.List.{range_with_len}
 use Rattle.span_id.specs.Bits.{has_bit}
-use Rattle.span_layers.specs.Note.{PlainNote, Told}
+use Rattle.span_layers.specs.Note.{PlainNote, EventText}
 use Rattle.span_layers.specs.Filter.{Filter}
 use Rattle.span_forest.specs.Spans.{Spans, IsOpen}
 use Rattle.span_forest.specs.Path.{path_text}
@@ -76,10 +76,10 @@ pub record Knows (told : List (List ℕ) → List ℕ) (spans : Spans) (paths : 
   pub first : IfSome paths.first (KnowsPath told spans)
   pub further : All (KnowsPath told spans) paths.further.items
 
--- the level and the message that it is told
-abbrev pub tail_told : Subject → Option Told
-tail_told (Event around level message) = Some (level, arc_str_bytes message.now)
-tail_told _ = None
+-- what an event says
+abbrev pub event_said : Subject → Option EventText
+event_said (Event around level message) = Some (record { level = level; message = arc_str_bytes message.now })
+event_said _ = None
 
 -- what a layer is told
 abbrev pub told_to : Spans → Telling → ℕ → PlainNote
@@ -90,7 +90,7 @@ told_to spans what layer = record {
   id = id_told what.subject (place_told spans what.subject layer);
   path = text_told what.subject (path_at layer spans (place_told spans what.subject layer));
   fields = what.fields.now;
-  tail = tail_told what.subject;
+  event = event_said what.subject;
 }
 
 -- the layers from this number on that this mask has, ascending

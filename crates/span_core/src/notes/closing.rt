@@ -307,7 +307,7 @@ fn close_note(
         id: what.id.get(),
         path,
         fields,
-        tail: None,
+        event: None,
     })
 }
 

@@ -143,7 +143,7 @@ pub(crate) enum Act<'a> {
     Owners(&'a [(usize, usize)]),
     /// A step of the drain.
     Step,
-    /// So many steps of the drain, and how many batches, refused notes and lines it had.
+    /// So many steps of the drain, and how many batches, missed notes and lines it had.
     Drain(u32),
 }
 

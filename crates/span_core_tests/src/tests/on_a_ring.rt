@@ -19,7 +19,7 @@ fn drain_on(drain: &mut Drain, steps: u32) -> Answer {
     for _ in 0..steps {
         drain.step();
     }
-    Answer::Drained([drain.taken(), drain.refused(), drain.all().len() as u64])
+    Answer::Drained([drain.taken(), drain.missed(), drain.all().len() as u64])
 }
 
 fn answer(
@@ -84,7 +84,7 @@ pub(crate) fn played_on_ring(
     Transcript {
         text,
         open: core.len(),
-        missed: drain.refused(),
+        missed: drain.missed(),
     }
 }
 

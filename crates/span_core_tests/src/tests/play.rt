@@ -134,7 +134,7 @@ pub(crate) fn played_on<V: Say>(
 pub(crate) fn written<V: Say>(core: Core<Kept<V>>, text: Vec<u8>) -> Transcript {
     let open = core.len();
     let kept = core.into_outlet();
-    let missed = kept.refused();
+    let missed = kept.missed();
     Transcript { text, open, missed }
 }
 

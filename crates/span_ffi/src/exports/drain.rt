@@ -100,17 +100,17 @@ pub extern "C" fn span_drain_counts(
     alloc: Global,
     drain: &mut SpanDrain,
     batches: &mut u64,
-    refused: &mut u64,
+    missed: &mut u64,
 ) -> u32
-    ensures counts { OnHeld drain.old.held (CountsLines batches.new refused.new) (meant result) drain.new.held }
+    ensures counts { OnHeld drain.old.held (CountsLines batches.new missed.new) (meant result) drain.new.held }
     ensures batches { Keeps (meant result) batches.old batches.new }
-    ensures refused { Keeps (meant result) refused.old refused.new }
+    ensures missed { Keeps (meant result) missed.old missed.new }
 {
     let Some(held) = drain.take(alloc) else {
         return Status::EmptyHandle.number();
     };
     *batches = held.lines.taken();
-    *refused = held.lines.refused();
+    *missed = held.lines.missed();
     drain.put(held);
     Status::Done.number()
 }

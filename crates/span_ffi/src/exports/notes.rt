@@ -31,25 +31,25 @@ fn kind_number(kind: Kind) -> u32
 }
 
 fn level_number(note: &Note) -> u32
-    ensures { result ≡ level_number (plain_note note.now).tail }
+    ensures { result ≡ level_number (plain_note note.now).event }
 {
-    match &note.tail {
+    match &note.event {
         Some((level, _)) => u32::from(level.verbosity()),
         None => 0,
     }
 }
 
 fn message_in(note: &Note) -> &str
-    ensures { result.now ≡ message_in (plain_note note.now).tail }
+    ensures { result.now ≡ message_in (plain_note note.now).event }
 {
-    match &note.tail {
+    match &note.event {
         Some((_, message)) => message.as_str(),
         None => "",
     }
 }
 
 fn note_numbers(batch: u64, note: &Note) -> SpanNote
-    requires { are_short ((plain_note note.now).path, message_in (plain_note note.now).tail) ≡ true }
+    requires { are_short ((plain_note note.now).path, message_in (plain_note note.now).event) ≡ true }
     ensures { result ≡ note_numbers batch (plain_note note.now) }
 {
     SpanNote {

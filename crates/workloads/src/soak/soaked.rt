@@ -118,7 +118,7 @@ fn run<
     Ok(Ended {
         counts,
         lines: lines.saturating_add(rest),
-        missed: reader.refused(),
+        missed: reader.missed(),
         read: reader.taken(),
         tally: whole.tally,
     })

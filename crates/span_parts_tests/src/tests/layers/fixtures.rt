@@ -43,7 +43,7 @@ pub(crate) fn note(rt: &impl Abort, alloc: Global, layer: u32) -> Note {
         id: 1,
         path: ArcStr::from_str(alloc, "a").expect(rt, "memory"),
         fields: fields(rt, alloc, &[("k", "1")]),
-        tail: None,
+        event: None,
     }
 }
 

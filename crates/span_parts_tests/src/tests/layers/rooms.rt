@@ -34,7 +34,7 @@ fn event(rt: &impl Abort, alloc: Global, message: &str) -> Note {
         id: 0,
         path: ArcStr::from_str(alloc, "-").expect(rt, "memory"),
         fields: Fields::none(),
-        tail: Some((
+        event: Some((
             Level::Info,
             ArcStr::from_str(alloc, message).expect(rt, "memory"),
         )),

@@ -30,7 +30,7 @@ fn note(rt: &impl Abort, alloc: Global, case: &Case<'_>) -> Note {
         id: case.id,
         path: ArcStr::from_str(alloc, case.path).expect(rt, "memory"),
         fields: fields(rt, alloc, case.fields),
-        tail: case.level.map(|level| (level, message)),
+        event: case.level.map(|level| (level, message)),
     }
 }
 

@@ -117,7 +117,7 @@ fn note(rt: &impl Abort, alloc: Global, kind: Kind, layer: u32) -> Note {
         id: 1,
         path: ArcStr::from_str(alloc, "a").expect(rt, "memory"),
         fields: Fields::none(),
-        tail: None,
+        event: None,
     }
 }
 

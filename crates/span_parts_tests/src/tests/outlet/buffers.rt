@@ -71,7 +71,7 @@ fn event(rt: &impl Abort, alloc: Global, bytes: usize) -> Note {
         id: 0,
         path: ArcStr::from_str(alloc, "-").expect(rt, "memory"),
         fields: Fields::none(),
-        tail: Some((
+        event: Some((
             Level::Info,
             ArcStr::from_string(message).expect(rt, "memory"),
         )),
@@ -127,7 +127,7 @@ fn are_kept(rt: &impl Abort, alloc: Global, case: &Case) {
     let mut latest = with_room(rt, alloc, room);
     send_texts(rt, alloc, &mut latest, first);
     send_texts(rt, alloc, &mut latest, second);
-    let found = (with_capacity(latest.lines(), bytes), latest.refused());
+    let found = (with_capacity(latest.lines(), bytes), latest.missed());
     same(rt, found, (buffers, 0), bytes);
 }
 

@@ -60,7 +60,7 @@ fn an_outlet_that_keeps_batches_asks_once(rt: HostRuntime) {
     let calls = no_calls(&rt, alloc, Refused::At(Kind::OnNew));
     let mut kept = Kept::new(alloc, four_tellers(&rt, alloc, &calls));
     sends_all(&rt, alloc, &calls, &mut kept, true);
-    same(&rt, kept.refused(), MISSED, "missed notes");
+    same(&rt, kept.missed(), MISSED, "missed notes");
 }
 
 // From the second batch on there are buffers of texts that are gone.
@@ -70,7 +70,7 @@ fn an_outlet_that_has_the_last_lines_asks_once(rt: HostRuntime) {
     let calls = no_calls(&rt, alloc, Refused::At(Kind::OnNew));
     let mut latest = Latest::new(alloc, four_tellers(&rt, alloc, &calls));
     sends_all(&rt, alloc, &calls, &mut latest, true);
-    let counts = (latest.sent(), latest.refused());
+    let counts = (latest.sent(), latest.missed());
     same(&rt, counts, (7, MISSED), "batches and missed notes");
 }
 
@@ -93,7 +93,7 @@ fn takes_all(rt: &impl Abort, calls: &Watch, ring: &mut Ring, drain: &mut Drain)
     }
     drain.last(ring);
     same(rt, calls.taken(), 2_112_341, "the last batches");
-    same(rt, drain.refused(), MISSED, "missed notes");
+    same(rt, drain.missed(), MISSED, "missed notes");
 }
 
 #[test]
@@ -118,7 +118,7 @@ fn reads_all(rt: &impl Abort, calls: &Watch, reader: &mut LineReader) {
         same(rt, calls.taken(), 0, *digits);
     }
     holds(rt, !reader.fill(), "no line waits");
-    same(rt, reader.refused(), MISSED, "missed notes");
+    same(rt, reader.missed(), MISSED, "missed notes");
 }
 
 #[test]

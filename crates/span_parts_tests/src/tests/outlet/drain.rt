@@ -26,9 +26,9 @@ enum Act<'a> {
 fn looks(rt: &impl Abort, alloc: Global, ring: &Ring, drain: &mut Drain, act: &Act<'_>) {
     match act {
         Act::Step(want) => same(rt, drain.step(), *want, "a step"),
-        Act::Count(full, taken, refused) => {
-            let found = (ring.times_full(), drain.taken(), drain.refused());
-            same(rt, found, (*full, *taken, *refused), "counts");
+        Act::Count(full, taken, missed) => {
+            let found = (ring.times_full(), drain.taken(), drain.missed());
+            same(rt, found, (*full, *taken, *missed), "counts");
         }
         Act::Lines(want) => are_lines(rt, alloc, drain, want),
         Act::LinesOf(layer, want) => are_lines_of(rt, alloc, drain, *layer, want),
@@ -62,30 +62,15 @@ const JSON: &str = r#"0 0 0 {"fields":[],"id":1,"kind":"enter","path":"a","worke
 
 const COMPACT: &str = "0 1 1 enter 1 w0 a\n2 0 1 exit 1 w0 a\n";
 
-const NONE_TOLD: Option<Step> = Some(Step {
-    told: 0,
-    refused: 0,
-});
+const NONE_TOLD: Option<Step> = Some(Step { told: 0, missed: 0 });
 
-const ONE_TOLD: Option<Step> = Some(Step {
-    told: 1,
-    refused: 0,
-});
+const ONE_TOLD: Option<Step> = Some(Step { told: 1, missed: 0 });
 
-const TWO_TOLD: Option<Step> = Some(Step {
-    told: 2,
-    refused: 0,
-});
+const TWO_TOLD: Option<Step> = Some(Step { told: 2, missed: 0 });
 
-const ONE_MISSED: Option<Step> = Some(Step {
-    told: 0,
-    refused: 1,
-});
+const ONE_MISSED: Option<Step> = Some(Step { told: 0, missed: 1 });
 
-const TWO_OF_THREE_MISSED: Option<Step> = Some(Step {
-    told: 1,
-    refused: 2,
-});
+const TWO_OF_THREE_MISSED: Option<Step> = Some(Step { told: 1, missed: 2 });
 
 // The places of a ring, the forms in which a drain of it writes, and what is done in this order.
 type Play = (u32, &'static [Form], &'static [Act<'static>]);

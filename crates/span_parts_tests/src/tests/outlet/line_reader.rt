@@ -72,9 +72,9 @@ fn looks<V: Say>(rt: &impl Abort, alloc: Global, reader: &mut LineReader<V>, act
         Act::Wait(place, note) => same(rt, waiting(reader), (*place, *note), "the line that waits"),
         Act::Give(want) => same(rt, given(reader), *want, "the line that is given out"),
         Act::Skip(lines) => same(rt, reader.skip(), *lines, "lines given up"),
-        Act::Count(taken, refused) => {
-            let found = (reader.taken(), reader.refused());
-            same(rt, found, (*taken, *refused), "taken and refused");
+        Act::Count(taken, missed) => {
+            let found = (reader.taken(), reader.missed());
+            same(rt, found, (*taken, *missed), "taken and missed");
         }
         Act::Send(..) => {}
     }
@@ -230,6 +230,6 @@ fn both_ends_in_one_thread(rt: HostRuntime) {
     is_behind(&rt, &mut reader, &mut ring, 0);
     gives(&rt, &mut reader, 1);
     fills_beside(&rt, &mut reader, &mut ring, false);
-    let counts = (reader.looks(), reader.taken(), reader.refused());
-    same(&rt, counts, (3, 2, 1), "looks, taken and refused");
+    let counts = (reader.looks(), reader.taken(), reader.missed());
+    same(&rt, counts, (3, 2, 1), "looks, taken and missed");
 }

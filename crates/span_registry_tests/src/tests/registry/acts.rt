@@ -120,8 +120,8 @@ fn add_answer(text: &mut String, answer: &Answer) -> Result<(), AllocError> {
         Answer::Made(id) => write!(text, "= {id}\n"),
         Answer::Refused(fault) => write!(text, "! {fault}\n"),
         Answer::Counted(accepted, out) => write!(text, "= accepted {accepted} out {out}\n"),
-        Answer::Stepped(Some(Step { told, refused })) => {
-            write!(text, "= told {told} refused {refused}\n")
+        Answer::Stepped(Some(Step { told, missed })) => {
+            write!(text, "= told {told} missed {missed}\n")
         }
         _ => text.push_str(word(answer)),
     }

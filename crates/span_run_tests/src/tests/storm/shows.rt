@@ -18,7 +18,7 @@ fn report(alloc: Global) -> Report {
         made: u64::MAX,
         closed: 10,
         lines: Vec::new(alloc),
-        refused: 123,
+        missed: 123,
     }
 }
 

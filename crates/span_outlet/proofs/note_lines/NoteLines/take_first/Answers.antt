@@ -1,10 +1,10 @@
 use Rattle.std.proofs.Common.{refl}
 use Rattle.span_outlet.proofs.Keeping.{as_shown}
 use Rattle.span_outlet.proofs.Draining.{one_more_taken}
-use Rattle.span_outlet.proofs.told.Told.tell_next.Goals as goal
+use Rattle.span_outlet.proofs.note_lines.NoteLines.take_first.Goals as goal
 
-pub returns-clause-next : goal.returns-clause-next
-returns-clause-next g c = record {
+pub returns-clause-first : goal.returns-clause-first
+returns-clause-first g c = record {
   batch = c.pop_known-batch.result;
   moved = c.pop_known-batch.ensures.received.0;
   stood = c.pop_known-batch.ensures.received.1;

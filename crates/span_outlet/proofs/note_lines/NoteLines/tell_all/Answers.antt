@@ -1,7 +1,7 @@
 use Rattle.std.proofs.Common.{rules, ◌≡◌, ◌<◌, ◌≤◌, length, get_or, refl, ◌∙◌}
 use Rattle.span_outlet.proofs.Keeping.{gains_none, next_gains, all_gained}
 use Rattle.span_outlet.proofs.Draining.{most_gained}
-use Rattle.span_outlet.proofs.told.Told.tell_all.Goals as goal
+use Rattle.span_outlet.proofs.note_lines.NoteLines.tell_all.Goals as goal
 
 pub loop-place-init : goal.loop-place-init
 loop-place-init g c = record { forms = refl; so_far = gains_none _ _ _ c.args.self.now.in_range }

@@ -5,7 +5,7 @@ ghost use Rattle.span_layers.specs.Text.{text_of};
 ghost use Rattle.span_outlet.specs.Lines.{line_of, plain_line};
 ghost use Rattle.span_outlet.specs.Kept.{LacksMemory, WhyMissed, GainsLines};
 ghost use Rattle.span_outlet.specs.inside.Ends.{name_of_consumer};
-ghost use Rattle.span_outlet.specs.inside.Telling.{TellsNext, numbered_notes};
+ghost use Rattle.span_outlet.specs.inside.Taking.{TakesFirst, numbered_notes};
 ghost use Rattle.rtrb.specs.Ring.{received, known_items};
 
 use crate::line::Line;
@@ -30,15 +30,15 @@ const MOST_LEFT: usize = 67;
 
 /// The lines so far, and how many notes were missed.
 #[derive(Drop)]
-pub(crate) struct Told {
+pub(crate) struct NoteLines {
     pub(crate) forms: Forms,
     pub(crate) lines: Vec<Line>,
     // Buffers of texts that are gone, for texts to come. What they still hold is of no account.
     pub(crate) spare: Vec<Vec<u8>>,
     // Stays at its greatest value.
-    pub(crate) refused: u64,
+    pub(crate) missed: u64,
     // The range of a `u64`, known where it isn't read.
-    ghost in_range: { refused ≤ 2 ^ 64 - 1 },
+    ghost in_range: { missed ≤ 2 ^ 64 - 1 },
 }
 
 /// Lets go of the lines. The buffers of their texts are kept for texts to come, as long as they are few and small, and
@@ -130,14 +130,14 @@ fn line_of_note<V: Say>(
     })
 }
 
-impl Told {
+impl NoteLines {
     // Counts a note that is missed.
     fn miss(&mut self)
         ensures forms { self.new.forms ≡ self.old.forms }
         ensures lines { self.new.lines ≡ self.old.lines }
-        ensures refused { self.new.refused ≡ min (2 ^ 64 - 1) (self.old.refused + 1) }
+        ensures missed { self.new.missed ≡ min (2 ^ 64 - 1) (self.old.missed + 1) }
     {
-        self.refused = self.refused.saturating_add(1);
+        self.missed = self.missed.saturating_add(1);
     }
 
     // Tells a note: its line is appended, or it is missed and counted.
@@ -145,8 +145,8 @@ impl Told {
         ensures forms { self.new.forms ≡ self.old.forms }
         ensures told { GainsLines self.old.forms
             ((record { batch = batch; place = place; note = plain_note note.now }) ∷ [])
-            (map plain_line self.old.lines.items) self.old.refused
-            (map plain_line self.new.lines.items) self.new.refused }
+            (map plain_line self.old.lines.items) self.old.missed
+            (map plain_line self.new.lines.items) self.new.missed }
     {
         let Some(line) = line_of_note(&self.forms, &mut self.spare, formatters, batch, place, note)
         else {
@@ -162,8 +162,8 @@ impl Told {
     pub(crate) fn tell_all<V: Say>(&mut self, formatters: &V, number: u64, notes: &[Note])
         ensures forms { self.new.forms ≡ self.old.forms }
         ensures told { GainsLines self.old.forms (numbered_notes number (map plain_note notes.now))
-            (map plain_line self.old.lines.items) self.old.refused
-            (map plain_line self.new.lines.items) self.new.refused }
+            (map plain_line self.old.lines.items) self.old.missed
+            (map plain_line self.new.lines.items) self.new.missed }
         ensures more { length self.old.lines.items ≤ length self.new.lines.items }
         ensures most { length self.new.lines.items
             ≤ length self.old.lines.items + length notes.now }
@@ -174,7 +174,7 @@ impl Told {
     }
 
     // Takes the batch that is known to stand first in the ring, and tells its notes, which it hands on.
-    pub(crate) fn tell_next<V: Say>(
+    pub(crate) fn take_first<V: Say>(
         &mut self,
         formatters: &V,
         consumer: &mut Consuming,
@@ -182,9 +182,9 @@ impl Told {
     ) -> Vec<Note>
         requires standing { 0 < length (known_items consumer.old) }
         requires number { taken.old ≡ length (received consumer.old) }
-        ensures next { TellsNext self.old.forms taken.old (received consumer.old) (known_items consumer.old)
+        ensures first { TakesFirst self.old.forms taken.old (received consumer.old) (known_items consumer.old)
             (received consumer.new) (known_items consumer.new)
-            self.old.lines.items self.old.refused self.new.lines.items self.new.refused result.items }
+            self.old.lines.items self.old.missed self.new.lines.items self.new.missed result.items }
         ensures forms { self.new.forms ≡ self.old.forms }
         ensures number { taken.new ≡ length (received consumer.new) }
         ensures name { name_of_consumer consumer.new ≡ name_of_consumer consumer.old }
