@@ -6,7 +6,7 @@ use Rattle.span_layers.specs.Note.{PlainNote}
 use Rattle.span_layers.specs.Filter.{Filter, admission_set}
 use Rattle.span_forest.specs.declared.span.Holder.TheVariants.{Handle, Entry}
 use Rattle.span_forest.specs.Node.{Node, with_fields}
-use Rattle.span_forest.specs.Spans.{Spans, find, with_node, with_change}
+use Rattle.span_forest.specs.Spans.{Spans, find, with_entry, with_change}
 use Rattle.span_forest.specs.Live.{stands_in}
 use Rattle.span_forest.specs.Holders.{IsHeld}
 use Rattle.span_forest.specs.Keep.{with_holder}
@@ -40,7 +40,7 @@ made_node rules meta fields parent = record {
 -- one span more
 abbrev pub world_made : List Filter → World → PlainMeta → List KeyValue → Option ℕ → ℕ → World
 world_made rules old meta fields parent id =
-    record old { spans = with_node old.spans id (made_node rules meta fields parent) }
+    record old { spans = with_entry old.spans id (made_node rules meta fields parent) }
 
 -- one handle more
 abbrev pub world_cloned : World → ℕ → World

@@ -8,11 +8,11 @@ use Rattle.std.proofs.lemmas.List.Elements.{filter-append}
 use Rattle.std.specs.Prelude.{slice_index, is_some, IsTrue}
 use Rattle.std.specs.Option.{option_map}
 use Rattle.span_id.specs.Id.{slot_of, generation_of}
-use Rattle.span_slots.specs.Table.{value_at}
+use Rattle.span_slots.specs.Table.{find, AreApart}
 use Rattle.span_forest.specs.declared.span.Span.{Span}
 use Rattle.span_forest.specs.declared.holding.Held.{Held}
 use Rattle.span_forest.specs.Node.{Node, node_of}
-use Rattle.span_forest.specs.Spans.{Spans, find, IsOpen, AreApart, parent_in, parent_of, nodes_of}
+use Rattle.span_forest.specs.Spans.{Spans, IsOpen, parent_in, parent_of, nodes_of}
 use Rattle.span_forest.specs.Count.{is_held}
 use Rattle.span_forest.specs.Forest.{IsForest}
 use Rattle.span_forest.specs.Holding.{open_ids, held_of, held_spans, what_holds}
@@ -59,7 +59,7 @@ climbs_at spans id at x next g e = subst (Climbs spans id at) e g
 not_known : (marks : List (Option Bool)) (id x : ℕ) → known_of marks id x ≡ None → x ≢ id
 not_known marks id x h e = let h2 = rw (eq-eqb x id e) at h in cc
 
-pub climbs_turn : (es : List (ℕ × Span)) (id at x : ℕ) (span : Span) (marks : List (Option Bool)) (next : Option ℕ) → IsForest (nodes_of es) → Climbs (nodes_of es) id at next → next ≡ Some x → known_of marks id x ≡ None → value_at es x ≡ Some span → Climbed (nodes_of es) id at next span.parent
+pub climbs_turn : (es : List (ℕ × Span)) (id at x : ℕ) (span : Span) (marks : List (Option Bool)) (next : Option ℕ) → IsForest (nodes_of es) → Climbs (nodes_of es) id at next → next ≡ Some x → known_of marks id x ≡ None → find es x ≡ Some span → Climbed (nodes_of es) id at next span.parent
 climbs_turn es id at x span marks next w g0 n k f =
     let spans = nodes_of es in
     let g = climbs_at spans id at x next g0 n in
@@ -73,9 +73,9 @@ climbs_turn es id at x span marks next w g0 n k f =
       smaller = (let a = ap length step in let b = ap (λ o. length (walk_from spans o)) n in omega arith);
     }
 
-pub climbs_there : (es : List (ℕ × Span)) (id at x : ℕ) (next : Option ℕ) → Climbs (nodes_of es) id at next → next ≡ Some x → value_at es x ≡ None → ⊥
+pub climbs_there : (es : List (ℕ × Span)) (id at x : ℕ) (next : Option ℕ) → Climbs (nodes_of es) id at next → next ≡ Some x → find es x ≡ None → ⊥
 climbs_there es id at x next g e h =
-    let s = value_of_open es x (g.here x e) in none_is (value_at es x) s.0 h s.1
+    let s = value_of_open es x (g.here x e) in none_is (find es x) s.0 h s.1
 
 -- what is known of the next span is so of the first
 pub climbs_known : (spans : Spans) (id at x : ℕ) (marks : List (Option Bool)) (below : Bool) (next : Option ℕ) → AreMarks spans id None marks → Climbs spans id at next → next ≡ Some x → known_of marks id x ≡ Some below → below ≡ is_below spans id at
@@ -272,15 +272,15 @@ gathered_all spans id i xs same past =
 
 -- ---- one span's holders
 
-pub held_pushed : (es : List (ℕ × Span)) (at : ℕ) (span : Span) → value_at es at ≡ Some span → 0 < span.handles + span.entries → held_one at (find (nodes_of es) at) ≡ held_of (at, node_of span) ∷ []
+pub held_pushed : (es : List (ℕ × Span)) (at : ℕ) (span : Span) → find es at ≡ Some span → 0 < span.handles + span.entries → held_one at (find (nodes_of es) at) ≡ held_of (at, node_of span) ∷ []
 held_pushed es at span f h = rw (node_found es at span f, lt-ltb 0 (span.handles + span.entries) h) refl
 
-pub held_none : (es : List (ℕ × Span)) (at : ℕ) (span : Span) → value_at es at ≡ Some span → span.handles ≤ 0 → span.entries ≤ 0 → held_one at (find (nodes_of es) at) ≡ []
+pub held_none : (es : List (ℕ × Span)) (at : ℕ) (span : Span) → find es at ≡ Some span → span.handles ≤ 0 → span.entries ≤ 0 → held_one at (find (nodes_of es) at) ≡ []
 held_none es at span f h k =
     let z : ltb 0 (span.handles + span.entries) ≡ false = grind (arith, nat_tests) in
     rw (node_found es at span f, z) refl
 
-pub held_absent : (es : List (ℕ × Span)) (at : ℕ) → value_at es at ≡ None → held_one at (find (nodes_of es) at) ≡ []
+pub held_absent : (es : List (ℕ × Span)) (at : ℕ) → find es at ≡ None → held_one at (find (nodes_of es) at) ≡ []
 held_absent es at f = ap (held_one at) (find-nodes es at ∙ ap (option_map node_of) f)
 
 -- a list that is replaced as a whole

@@ -10,7 +10,8 @@ use Rattle.std.specs.List.Sorted.{IsStrictlyIncreasing}
 use Rattle.span_id.specs.Id.{slot_of}
 use Rattle.span_forest.specs.declared.span.Span.{Span}
 use Rattle.span_forest.specs.Node.{Node}
-use Rattle.span_forest.specs.Spans.{Spans, find, IsOpen, AreApart, nodes_of}
+use Rattle.span_slots.specs.Table.{find, AreApart}
+use Rattle.span_forest.specs.Spans.{Spans, IsOpen, nodes_of}
 use Rattle.span_forest.specs.Holding.{open_ids}
 use Rattle.span_forest.proofs.Finds.{find_apart}
 use Rattle.span_forest.proofs.Spared.{none_open}

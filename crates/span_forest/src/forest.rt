@@ -1,10 +1,10 @@
 ghost use Rattle.std.specs.Prelude.{◌≡◌, ℕ, ◌<◌, Some, None, IfSome, IfNone, IfOk, IfErr, OnOk, OnErr, IsTrue, ◌↔◌, ◌⊎◌, ◌++◌, ◌∷◌, length, [], map, string_bytes};
 ghost use Rattle.span_id.specs.Id.{IsId};
 ghost use Rattle.span_id.specs.Bits.{has_bit};
-ghost use Rattle.span_slots.specs.Table.{IsIssued};
+ghost use Rattle.span_slots.specs.Table.{IsIssued, find};
 ghost use Rattle.span_id.specs.Meta.{plain_fields};
 ghost use Rattle.span_forest.specs.Node.{Node, node_of, new_node, with_fields};
-ghost use Rattle.span_forest.specs.Spans.{find, parent_of, IsOpen, with_change, WhyNotFound};
+ghost use Rattle.span_forest.specs.Spans.{parent_of, IsOpen, with_change, WhyNotFound};
 ghost use Rattle.span_forest.specs.Count.{reference_count, total_held, total_handles};
 ghost use Rattle.span_forest.specs.Path.{path, path_text};
 ghost use Rattle.span_forest.specs.Forest.{next_span_id, table_of};

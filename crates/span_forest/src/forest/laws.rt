@@ -2,11 +2,11 @@
 ghost use Rattle.std.specs.Prelude.{◌≡◌, ◌≢◌, ℕ, ◌<◌, ◌≤◌, ◌↔◌, ◌⊎◌, [], false, Some, None, IfSome, IsTrue, All, AllPairs, Contains, List, length, map, take};
 ghost use Rattle.std.specs.List.Sorted.{IsStrictlyIncreasing};
 ghost use Rattle.span_id.specs.Id.{id_of, slot_of, IsId};
-ghost use Rattle.span_slots.specs.Table.{IsIssued, IsFull};
+ghost use Rattle.span_slots.specs.Table.{IsIssued, IsFull, find};
 ghost use Rattle.span_forest.specs.declared.span.Holder.{Holder};
 ghost use Rattle.span_forest.specs.Node.{Node};
 ghost use Rattle.span_forest.specs.Add.{with_span};
-ghost use Rattle.span_forest.specs.Spans.{find, IsOpen, IsOccupied, parent_of};
+ghost use Rattle.span_forest.specs.Spans.{IsOpen, IsOccupied, parent_of};
 ghost use Rattle.span_forest.specs.Walk.{walk, Ends};
 ghost use Rattle.span_forest.specs.Count.{holders_in, reference_count, total_held};
 ghost use Rattle.span_forest.specs.Live.{stands_in, is_live};
