@@ -8,14 +8,14 @@ use Rattle.std.proofs.lemmas.List.Elements.{filter-append}
 use Rattle.std.specs.Prelude.{slice_index, is_some, IsTrue}
 use Rattle.std.specs.Option.{option_map}
 use Rattle.span_id.specs.Id.{slot_of, generation_of}
-use Rattle.span_slots.specs.Table.{find, AreApart}
+use Rattle.span_slots.specs.Table.{find, AreApart, all_ids}
 use Rattle.span_forest.specs.declared.span.Span.{Span}
 use Rattle.span_forest.specs.declared.holding.Held.{Held}
 use Rattle.span_forest.specs.Node.{Node, node_of}
 use Rattle.span_forest.specs.Spans.{Spans, IsOpen, parent_in, parent_of, nodes_of}
 use Rattle.span_forest.specs.Count.{is_held}
 use Rattle.span_forest.specs.Forest.{IsForest}
-use Rattle.span_forest.specs.Holding.{open_ids, held_of, held_spans, what_holds}
+use Rattle.span_forest.specs.Holding.{held_of, held_spans, what_holds}
 use Rattle.span_forest.specs.inside.Marks.{is_below, known_of, is_known, WillBeKnown, AreMarks, held_one}
 use Rattle.span_forest.proofs.Finds.{child_open}
 use Rattle.span_forest.proofs.OpenIds.{id_place, find_place, some_span, Place}
@@ -252,21 +252,21 @@ one_skipped : (spans : Spans) (id : ℕ) (e : ℕ × Node) → is_below spans id
 one_skipped spans id e h =
     elim (cases_Bool (is_held e.1)) [ inl t ↦ rw (t, h) refl | inr t ↦ rw t refl ]
 
-pub gathered_held : (spans : Spans) (id i : ℕ) (d : ℕ × Node) → AreApart spans → i < length spans → is_below spans id (get_or (open_ids spans) i 0) ≡ true → gathered_in spans id (i + 1) ≡ gathered_in spans id i ++ held_one (get_or (open_ids spans) i 0) (find spans (get_or (open_ids spans) i 0))
+pub gathered_held : (spans : Spans) (id i : ℕ) (d : ℕ × Node) → AreApart spans → i < length spans → is_below spans id (get_or (all_ids spans) i 0) ≡ true → gathered_in spans id (i + 1) ≡ gathered_in spans id i ++ held_one (get_or (all_ids spans) i 0) (find spans (get_or (all_ids spans) i 0))
 gathered_held spans id i d a low h =
     let same = id_place spans i d low in
     let b : is_below spans id (get_or spans i d).0 ≡ true = ap (is_below spans id) (sym same) ∙ h in
     rw (same, find_place spans i d a low) (gathered_more spans id i d low ∙ ap (λ v. gathered_in spans id i ++ v) (one_held spans id (get_or spans i d) b))
 
-pub gathered_skipped : (spans : Spans) (id i : ℕ) (d : ℕ × Node) → i < length spans → is_below spans id (get_or (open_ids spans) i 0) ≡ false → gathered_in spans id (i + 1) ≡ gathered_in spans id i
+pub gathered_skipped : (spans : Spans) (id i : ℕ) (d : ℕ × Node) → i < length spans → is_below spans id (get_or (all_ids spans) i 0) ≡ false → gathered_in spans id (i + 1) ≡ gathered_in spans id i
 gathered_skipped spans id i d low h =
     let same = id_place spans i d low in
     let b : is_below spans id (get_or spans i d).0 ≡ false = ap (is_below spans id) (sym same) ∙ h in
     gathered_more spans id i d low ∙ (ap (λ v. gathered_in spans id i ++ v) (one_skipped spans id (get_or spans i d) b) ∙ append-nil (gathered_in spans id i))
 
-pub gathered_all : (spans : Spans) (id i : ℕ) (xs : List ℕ) → xs ≡ open_ids spans → length xs ≤ i → gathered_in spans id i ≡ what_holds spans id
+pub gathered_all : (spans : Spans) (id i : ℕ) (xs : List ℕ) → xs ≡ all_ids spans → length xs ≤ i → gathered_in spans id i ≡ what_holds spans id
 gathered_all spans id i xs same past =
-    let len : length (open_ids spans) ≡ length spans = length-map spans (λ (e : ℕ × Node). e.0) in
+    let len : length (all_ids spans) ≡ length spans = length-map spans (λ (e : ℕ × Node). e.0) in
     let all = ap length same in
     ap (λ v. map held_of (filter (λ e. holding spans id e.0 e.1) v)) (take_all i spans (omega (arith, len, all, past))) ∙ sym (holds_below spans id)
 
@@ -308,7 +308,7 @@ held_first spans i = map held_of (filter (λ e. is_held e.1) (take i spans))
 one_alone : (e : ℕ × Node) → map held_of (filter (λ (e : ℕ × Node). is_held e.1) (e ∷ [])) ≡ held_one e.0 (Some e.1)
 one_alone e = elim (cases_Bool (is_held e.1)) [ inl t ↦ rw t refl | inr t ↦ rw t refl ]
 
-held_next : (spans : Spans) (i : ℕ) (d : ℕ × Node) → AreApart spans → i < length spans → held_first spans (i + 1) ≡ held_first spans i ++ held_one (get_or (open_ids spans) i 0) (find spans (get_or (open_ids spans) i 0))
+held_next : (spans : Spans) (i : ℕ) (d : ℕ × Node) → AreApart spans → i < length spans → held_first spans (i + 1) ≡ held_first spans i ++ held_one (get_or (all_ids spans) i 0) (find spans (get_or (all_ids spans) i 0))
 held_next spans i d a low =
     let f : ℕ × Node → Bool = λ e. is_held e.1 in
     rw (id_place spans i d low, find_place spans i d a low)

@@ -12,7 +12,7 @@ use Rattle.span_forest.specs.Walk.{walk_within, walk, Ends}
 use Rattle.span_forest.specs.Path.{name_for, names_for, path}
 use Rattle.span_forest.specs.Forest.{IsForest}
 use Rattle.span_forest.proofs.Ranks.{walk_more}
-use Rattle.span_forest.proofs.Counts.{node_found, none_is}
+use Rattle.span_forest.proofs.Counts.{none_is}
 use Rattle.span_forest.proofs.Nodes.{value_of_open}
 
 -- the walk from a span that may be there
@@ -42,11 +42,10 @@ Gathers_none spans layer id o = record { all = refl; here = λ i e. (let same : 
 pub Gathers_at : (spans : Spans) (layer id at : ℕ) (names : List (List ℕ)) (next : Option ℕ) → Gathers spans layer id names next → next ≡ Some at → Gathers spans layer id names (Some at)
 Gathers_at spans layer id at names next g e = subst (Gathers spans layer id names) e g
 
-pub Gathers_turn : (es : List (ℕ × Span)) (layer id at : ℕ) (span : Span) (names more : List (List ℕ)) (next : Option ℕ) → IsForest (nodes_of es) → Gathers (nodes_of es) layer id names next → next ≡ Some at → find es at ≡ Some span → more ≡ names ++ name_for layer (Some (node_of span)) → Gathered (nodes_of es) layer id more next span.parent
-Gathers_turn es layer id at span names more next w g0 n f m =
+pub Gathers_turn : (es : List (ℕ × Span)) (layer id at : ℕ) (span : Span) (names more : List (List ℕ)) (next : Option ℕ) → IsForest (nodes_of es) → Gathers (nodes_of es) layer id names next → next ≡ Some at → find (nodes_of es) at ≡ Some (node_of span) → more ≡ names ++ name_for layer (Some (node_of span)) → Gathered (nodes_of es) layer id more next span.parent
+Gathers_turn es layer id at span names more next w g0 n found m =
     let spans = nodes_of es in
     let g = Gathers_at spans layer id at names next g0 n in
-    let found = node_found es at span f in
     let parent : parent_of spans at ≡ span.parent = ap parent_in found in
     let step : walk_from spans (Some at) ≡ at ∷ walk_from spans span.parent = walk_step spans at w (g.here at refl) ∙ ap (λ o. at ∷ walk_from spans o) parent in
     let first : names_for layer spans (walk_from spans (Some at)) ≡ name_for layer (Some (node_of span)) ++ names_for layer spans (walk_from spans span.parent) =

@@ -56,6 +56,10 @@ module _ {T : Type 0} where
   AreApart [] = Unit {0}
   AreApart (e ∷ es) = (find es e.0 ≡ None) × AreApart es
 
+  -- the ids of the entries, by ascending slot
+  abbrev pub all_ids : List (ℕ × T) → List ℕ
+  all_ids es = map (λ e. e.0) es
+
   -- the entries with one more, in the order of the slots
   abbrev pub with_entry : List (ℕ × T) → ℕ → T → List (ℕ × T)
   with_entry [] id value = (id, value) ∷ []

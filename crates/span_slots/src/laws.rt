@@ -5,7 +5,7 @@
 ghost use Rattle.std.specs.Prelude.{◌≡◌, ◌≢◌, ℕ, ◌+◌, ◌<◌, ◌≤◌, ◌↔◌, ◌⊎◌, List, [], ◌∷◌, length, map, All, AllPairs, Contains, Some, None, IsSome, IfSome, IsTrue};
 ghost use Rattle.std.specs.List.Sorted.{IsStrictlyIncreasing};
 ghost use Rattle.span_id.specs.Id.{id_of, slot_of, generation_of, IsId};
-ghost use Rattle.span_slots.specs.Table.{find, id_from, ids_from, next_id, IsIssued, IsUsed, IsFull, is_free, is_retired};
+ghost use Rattle.span_slots.specs.Table.{find, all_ids, id_from, ids_from, next_id, IsIssued, IsUsed, IsFull, is_free, is_retired};
 ghost use Rattle.span_slots.specs.Change.{Change, Insert, Remove, Write, after, after_all};
 
 use super::Slots;
@@ -130,7 +130,7 @@ pub fn each_slot_has_one_id<T>(slots: &Slots<T>)
 /// A walk by `id_from`, which begins at slot 0 and goes on at the slot after the one that was told, meets each id of
 /// the map once, and no other: by ascending slot.
 pub fn a_walk_meets_each_id_once<T>(slots: &Slots<T>)
-    ensures all { ids_from slots.now.entries 0 ≡ map (λ e. e.0) slots.now.entries }
+    ensures all { ids_from slots.now.entries 0 ≡ all_ids slots.now.entries }
     ensures next { (slot id : ℕ) → id_from slots.now.entries slot ≡ Some id →
         ids_from slots.now.entries slot ≡ id ∷ ids_from slots.now.entries (slot_of id + 1) }
     ensures end { (slot : ℕ) → id_from slots.now.entries slot ≡ None → ids_from slots.now.entries slot ≡ [] }
@@ -165,7 +165,7 @@ pub fn write_changes_its_value_alone<T>(slots: &Slots<T>)
     ensures others { (id other : ℕ) (value : T) → other ≢ id →
         find (after slots.now (Write id value)).entries other ≡ find slots.now.entries other }
     ensures ids { (id : ℕ) (value : T) →
-        map (λ e. e.0) (after slots.now (Write id value)).entries ≡ map (λ e. e.0) slots.now.entries }
+        all_ids (after slots.now (Write id value)).entries ≡ all_ids slots.now.entries }
     ensures next { (id : ℕ) (value : T) → next_id (after slots.now (Write id value)) ≡ next_id slots.now }
 {
     let _opened = &slots.cells;

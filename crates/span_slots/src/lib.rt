@@ -9,7 +9,7 @@ ghost use Rattle.std.specs.Prelude.{◌≡◌, ℕ, ◌+◌, ◌-◌, ◌<◌, �
 ghost use Rattle.std.specs.Option.{option_copied_mut};
 ghost use Rattle.std.specs.Borrow.{sem};
 ghost use Rattle.span_id.specs.Id.{IsId, slot_of};
-ghost use Rattle.span_slots.specs.Table.{Table, find, id_from, next_id, next_slot, table_inserted, table_removed, IsIssued, free_count};
+ghost use Rattle.span_slots.specs.Table.{Table, find, all_ids, id_from, next_id, next_slot, table_inserted, table_removed, IsIssued, free_count};
 ghost use Rattle.span_slots.specs.Change.{Insert, Remove, after};
 
 mod cells;
@@ -121,7 +121,7 @@ impl<T: Drop> Slots<T> {
     ///
     /// It looks at each slot that was ever used.
     pub fn ids(&self) -> Result<Vec<Id>, Fault>
-        ensures ids { IfOk result (λ ids. ids.items ≡ map (λ e. e.0) self.now.entries) }
+        ensures ids { IfOk result (λ ids. ids.items ≡ all_ids self.now.entries) }
         ensures fault { IfErr result (λ fault. fault ≡ Fault.Memory) }
     {
         let alloc = *self.cells.allocator();

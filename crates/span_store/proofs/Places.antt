@@ -3,12 +3,12 @@ use Rattle.std.proofs.Common.{◌≡◌, ◌≢◌, ℕ, Bool, eqb, zero, suc, �
 use Rattle.std.specs.Prelude.{IsSome, IsSomeAnd}
 use Rattle.std.proofs.lemmas.List.{take_more, take_all, get_or-map, length-map, map-append}
 use Rattle.std.proofs.lemmas.Bool.{eq-eqb, ne_eqb}
-use Rattle.span_slots.specs.Table.{find, AreApart}
+use Rattle.span_slots.specs.Table.{find, AreApart, all_ids}
 use Rattle.span_store.specs.declared.entry.Entry.{Entry}
 use Rattle.span_store.specs.declared.details.SpanDetails.{SpanDetails}
 use Rattle.span_store.specs.StoredSpan.{StoredSpan, plain_entry}
 use Rattle.span_store.specs.StoredSpans.{StoredSpans, children_there, is_closing}
-use Rattle.span_store.specs.Details.{details_there, ids_there}
+use Rattle.span_store.specs.Details.{details_there}
 use Rattle.span_store.specs.inside.Invariant.{spans_of, AreCounted}
 use Rattle.span_store.proofs.Maps.{there_is, two_ids}
 use Rattle.span_store.proofs.Plain.{span_at}
@@ -23,7 +23,7 @@ found_at (e ∷ es) (suc i) d a low =
     let ne : e.0 ≢ (get_or es i d).0 = λ q. two_ids es (get_or es i d).0 e.0 (there_is (find es (get_or es i d).0) (get_or es i d).1 r) a.0 (sym q) in
     rw (ne_eqb e.0 (get_or es i d).0 ne) r
 
-id_at : (spans : StoredSpans) (i : ℕ) (d : ℕ × StoredSpan) → i < length spans → get_or (ids_there spans) i 0 ≡ (get_or spans i d).0
+id_at : (spans : StoredSpans) (i : ℕ) (d : ℕ × StoredSpan) → i < length spans → get_or (all_ids spans) i 0 ≡ (get_or spans i d).0
 id_at spans i d low = get_or-map (λ (e : ℕ × StoredSpan). e.0) spans i d 0 low
 
 same_default : (xs : List ℕ) (i d e : ℕ) → i < length xs → get_or xs i d ≡ get_or xs i e
@@ -38,11 +38,11 @@ some_span (e ∷ es) i low = e
 -- an id stands at a place of the list
 pub record Place (spans : StoredSpans) (i at : ℕ) : Type 0 where
   pub low : i < length spans
-  pub is : at ≡ get_or (ids_there spans) i 0
+  pub is : at ≡ get_or (all_ids spans) i 0
 
-pub place_of : (spans : StoredSpans) (xs : List ℕ) (i at : ℕ) → xs ≡ ids_there spans → i < length xs → at ≡ get_or xs i at → Place spans i at
+pub place_of : (spans : StoredSpans) (xs : List ℕ) (i at : ℕ) → xs ≡ all_ids spans → i < length xs → at ≡ get_or xs i at → Place spans i at
 place_of spans xs i at same low is =
-    let len : length (ids_there spans) ≡ length spans = length-map spans (λ (e : ℕ × StoredSpan). e.0) in
+    let len : length (all_ids spans) ≡ length spans = length-map spans (λ (e : ℕ × StoredSpan). e.0) in
     let all = ap length same in
     record {
       low = omega (arith, len, all, low);
@@ -95,8 +95,8 @@ details_more spans list new i at apart place told so_far =
     ∙ (ap (λ v. v ++ details_there spans (at, n.span) ∷ []) so_far
     ∙ sym (ap (map (details_there spans)) n.first ∙ map-append (details_there spans) (take i spans) ((at, n.span) ∷ [])))
 
-pub details_all : (spans : StoredSpans) (i : ℕ) (ids : List ℕ) → ids ≡ ids_there spans → length ids ≤ i → map (details_there spans) (take i spans) ≡ map (details_there spans) spans
+pub details_all : (spans : StoredSpans) (i : ℕ) (ids : List ℕ) → ids ≡ all_ids spans → length ids ≤ i → map (details_there spans) (take i spans) ≡ map (details_there spans) spans
 details_all spans i ids same past =
-    let len : length (ids_there spans) ≡ length spans = length-map spans (λ (e : ℕ × StoredSpan). e.0) in
+    let len : length (all_ids spans) ≡ length spans = length-map spans (λ (e : ℕ × StoredSpan). e.0) in
     let all = ap length same in
     ap (map (details_there spans)) (take_all i spans (omega (arith, len, all, past)))

@@ -7,17 +7,17 @@ use Rattle.std.proofs.lemmas.Bool.{eq-eqb, ne_eqb}
 use Rattle.std.proofs.lemmas.List.Elements.{All-cons, All-nil, All-map, All-weaker}
 use Rattle.std.proofs.lemmas.List.Kept.{AllPairs-cons}
 use Rattle.span_id.specs.Id.{slot_of}
-use Rattle.span_slots.specs.Table.{find, AreApart}
+use Rattle.span_slots.specs.Table.{find, AreApart, all_ids}
 use Rattle.span_store.specs.declared.entry.Entry.{Entry}
 use Rattle.span_store.specs.declared.details.SpanDetails.{SpanDetails}
 use Rattle.span_store.specs.StoredSpan.{StoredSpan}
 use Rattle.span_store.specs.StoredSpans.{StoredSpans, IsThere, children_there, is_closing}
-use Rattle.span_store.specs.Details.{details_there, all_details, ids_there}
+use Rattle.span_store.specs.Details.{details_there, all_details}
 use Rattle.span_store.specs.inside.Invariant.{spans_of}
 use Rattle.span_store.proofs.Maps.{not_none, some_same}
 use Rattle.span_store.proofs.Steps.{closing_parts, closing_from}
 
-ids_told : (all spans : StoredSpans) → map (λ told. told.id) (map (details_there all) spans) ≡ ids_there spans
+ids_told : (all spans : StoredSpans) → map (λ told. told.id) (map (details_there all) spans) ≡ all_ids spans
 ids_told all [] = refl
 ids_told all (e ∷ es) = ap (λ v. e.0 ∷ v) (ids_told all es)
 
@@ -38,23 +38,23 @@ contains_cons : (x y : ℕ) (xs : List ℕ) → Contains (y ∷ xs) x → (y ≡
 contains_cons x y xs (zero, low, is) = inl is
 contains_cons x y xs (suc k, low, is) = inr (k, omega (arith, low), is)
 
-listed_there : (spans : StoredSpans) (id : ℕ) → Contains (ids_there spans) id → IsThere spans id
+listed_there : (spans : StoredSpans) (id : ℕ) → Contains (all_ids spans) id → IsThere spans id
 listed_there [] id c = (let low = c.1 in absurd (omega (arith, low)))
 listed_there (e ∷ es) id c =
     elim (eqb_tells e.0 id) [
       | inl t ↦ rw t.0 refl
-      | inr t ↦ elim (contains_cons id e.0 (ids_there es) c) [
+      | inr t ↦ elim (contains_cons id e.0 (all_ids es) c) [
         | inl q ↦ absurd (t.1 q)
         | inr r ↦ rw t.0 (listed_there es id r)
       ]
     ]
 
-there_listed : (spans : StoredSpans) (id : ℕ) → IsThere spans id → Contains (ids_there spans) id
+there_listed : (spans : StoredSpans) (id : ℕ) → IsThere spans id → Contains (all_ids spans) id
 there_listed [] id o = cc
 there_listed (e ∷ es) id o =
     elim (eqb_tells e.0 id) [
-      | inl t ↦ subst (λ x. Contains (ids_there (e ∷ es)) x) t.1 (contains_first e.0 (ids_there es))
-      | inr t ↦ contains_later id e.0 (ids_there es) (there_listed es id (rw t.0 at o))
+      | inl t ↦ subst (λ x. Contains (all_ids (e ∷ es)) x) t.1 (contains_first e.0 (all_ids es))
+      | inr t ↦ contains_later id e.0 (all_ids es) (there_listed es id (rw t.0 at o))
     ]
 
 pub told_there : (spans : StoredSpans) (id : ℕ) → Contains (map (λ told. told.id) (all_details spans)) id ↔ IsThere spans id

@@ -1,5 +1,6 @@
 use Rattle.std.proofs.Common.{map, sym, ap, ◌∙◌}
 use Rattle.std.specs.Option.{option_copied}
+use Rattle.span_forest.proofs.Counts.{node_found}
 use Rattle.span_forest.proofs.Paths.{Gathers_turn, there}
 use Rattle.span_forest.proofs.Texts.{Sees_turn}
 use Rattle.span_forest.proofs.path_text.seen_on_walk.Goals as goal
@@ -10,8 +11,8 @@ unreachable-requires c =
 
 pub up-smaller : goal.up-smaller
 up-smaller c =
-    (Gathers_turn c.args.slots.now.entries c.args.layer c.args.id c.in-Some.at c.in-Some-get.span.now (map (λ name. name.now) c.up.seen.names.items) (map (λ name. name.now) c.look.new.self.names.items) c.up.next c.requires.forest c.up.invariant.gathers c.in-Some.is (sym c.get.ensures ∙ ap option_copied c.in-Some-get.is) c.in_ok-look.ensures.name).smaller
+    (Gathers_turn c.args.slots.now.entries c.args.layer c.args.id c.in-Some.at c.in-Some-get.span.now (map (λ name. name.now) c.up.seen.names.items) (map (λ name. name.now) c.look-2.new.self.names.items) c.up.next c.requires.forest c.up.invariant.gathers c.in-Some.is (node_found c.args.slots.now.entries c.in-Some.at c.in-Some-get.span.now (sym c.get.ensures ∙ ap option_copied c.in-Some-get.is)) c.in_ok-look-2.ensures.name).smaller
 
 pub up-preserved : goal.up-preserved
 up-preserved c =
-    Sees_turn c.args.slots.now.entries c.args.layer c.args.id c.in-Some.at c.in-Some-get.span.now (map (λ name. name.now) c.up.seen.names.items) (map (λ name. name.now) c.look.new.self.names.items) c.up.seen.same.0 c.look.new.self.same.0 c.up.next c.requires.forest c.up.invariant c.in-Some.is (sym c.get.ensures ∙ ap option_copied c.in-Some-get.is) c.in_ok-look.ensures.name c.in_ok-look.ensures.same
+    Sees_turn c.args.slots.now.entries c.args.layer c.args.id c.in-Some.at c.in-Some-get.span.now (map (λ name. name.now) c.up.seen.names.items) (map (λ name. name.now) c.look-2.new.self.names.items) c.up.seen.same.0 c.look-2.new.self.same.0 c.up.next c.requires.forest c.up.invariant c.in-Some.is (node_found c.args.slots.now.entries c.in-Some.at c.in-Some-get.span.now (sym c.get.ensures ∙ ap option_copied c.in-Some-get.is)) c.in_ok-look-2.ensures.name c.in_ok-look-2.ensures.same
