@@ -3,7 +3,7 @@ use Rattle.std.proofs.Common.{◌≡◌, ◌≢◌, ℕ, ◌+◌, ◌≤◌, Boo
 use Rattle.std.specs.Option.{option_map, option_copied, IfNone, IfSome}
 use Rattle.std.specs.Borrow.{Bor}
 use Rattle.std.proofs.lemmas.Bool.Decides.{eqb_tells}
-use Rattle.std.proofs.lemmas.Bool.{eq-eqb, ne_eqb, cases_Bool, cases_lt}
+use Rattle.std.proofs.lemmas.Bool.{ne_eqb, cases_Bool, cases_lt}
 use Rattle.span_id.specs.Id.{slot_of}
 use Rattle.span_slots.specs.Table.{find, with_value, with_entry, AreApart}
 use Rattle.span_forest.specs.declared.span.Span.{Span}

@@ -1,4 +1,3 @@
-use Rattle.std.proofs.Common.{sym}
 use Rattle.span_slots.proofs.Entries.{find-with_value_same, find-with_value_other, ids-with_value}
 use Rattle.span_slots.proofs.laws.write_changes_its_value_alone.Goals as goal
 
