@@ -1,7 +1,6 @@
 -- A span that ends, and its parent's count.
 use Rattle.std.proofs.Common.{◌≡◌, ◌≢◌, ℕ, ◌+◌, ◌-◌, ◌<◌, ◌≤◌, eqb, length, Some, None, refl, sym, ap, subst, ◌∙◌, inl, inr, arith}
 use Rattle.std.proofs.lemmas.Bool.Decides.{eqb_tells}
-use Rattle.span_id.specs.Id.{slot_of}
 use Rattle.span_slots.specs.Table.{Table, find, without_entry, with_value, table_removed, freed_with, AreApart}
 use Rattle.span_slots.specs.Change.{Remove, Write, after}
 use Rattle.span_slots.proofs.Issued.{IsKept, IsKept-after}

@@ -1,5 +1,5 @@
 -- What is always true of a store and of the counts that its entries keep: no public clause cites it.
-use Rattle.std.specs.Prelude.{ℕ, ◌+◌, ◌<◌, ◌≤◌, ◌≡◌, List, [], ◌∷◌, map, length, Some, None}
+use Rattle.std.specs.Prelude.{ℕ, ◌+◌, ◌<◌, ◌≤◌, ◌≡◌, List, map, length, Some}
 use Rattle.span_slots.specs.Table.{Table, find, AreApart}
 use Rattle.span_slots.proofs.Issued.{IsKept}
 use Rattle.span_store.specs.declared.entry.Entry.{Entry}
