@@ -70,7 +70,10 @@ pub(crate) struct Telling<'a> {
 #[derive(Clone, Copy)]
 pub(crate) enum Subject<'a> {
     /// A span that is open, as the call found it, where it has that in hand.
-    Span { id: Id, seen: Option<&'a Span> },
+    Span {
+        id: Id,
+        seen: Option<&'a Span>,
+    },
     /// A span that is to be made.
     NewSpan {
         id: Id,

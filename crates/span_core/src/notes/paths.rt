@@ -338,12 +338,7 @@ fn text_at(
 }
 
 // The same at a span, by a walk which begins at the span itself if that is in hand.
-fn walked(
-    forest: &Forest,
-    layer: u32,
-    id: Id,
-    seen: Option<&Span>,
-) -> Result<PathText, Fault>
+fn walked(forest: &Forest, layer: u32, id: Id, seen: Option<&Span>) -> Result<PathText, Fault>
     requires { IfSome seen (IsAt forest.now.spans (Some id)) }
     ensures text { IfOk result (λ seen. string_bytes seen.text ≡ path_text (path layer forest.now.spans id)) }
     ensures same { IfOk result (λ seen. (other : ℕ) → IsTrue (has_bit seen.same.0 other) →
