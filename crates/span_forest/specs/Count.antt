@@ -17,7 +17,7 @@ abbrev pub holders_in : Option Node → ℕ
 holders_in None = 0
 holders_in (Some node) = holders node
 
--- there is an id, and it is this one
+-- the parent of a span, if it has one, is this id
 abbrev pub is_parent : Option ℕ → ℕ → Bool
 is_parent None id = false
 is_parent (Some parent) id = parent == id

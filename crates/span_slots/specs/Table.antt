@@ -46,7 +46,7 @@ freed_with last_generation given freed id =
     cond (nat_le (slice_index given (slot_of id)) last_generation) (slot_of id ∷ freed) freed
 
 module _ {T : Type 0} where
-  -- the value under an id, if there is one
+  -- the value under an id, if there is one; T is the type of the values
   abbrev pub find : List (ℕ × T) → ℕ → Option T
   find [] id = None
   find (e ∷ es) id = cond (e.0 == id) (Some e.1) (find es id)
