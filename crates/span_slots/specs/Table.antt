@@ -45,12 +45,12 @@ abbrev pub freed_with : ℕ → List ℕ → List ℕ → ℕ → List ℕ
 freed_with last_generation given freed id =
     cond (nat_le (slice_index given (slot_of id)) last_generation) (slot_of id ∷ freed) freed
 
-module _ {T : Type 0} where
-  -- the value under an id, if there is one; T is the type of the values
-  abbrev pub find : List (ℕ × T) → ℕ → Option T
-  find [] id = None
-  find (e ∷ es) id = cond (e.0 == id) (Some e.1) (find es id)
+-- The value under an id, if there is one.
+abbrev pub find : {T : Type 0} → List (ℕ × T) → ℕ → Option T
+find [] id = None
+find (e ∷ es) id = cond (e.0 == id) (Some e.1) (find es id)
 
+module _ {T : Type 0} where
   -- no id stands twice
   abbrev pub AreApart : List (ℕ × T) → Type 0
   AreApart [] = Unit {0}
