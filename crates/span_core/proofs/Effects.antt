@@ -9,7 +9,7 @@ use Rattle.span_layers.specs.Filter.{Filter, admission_set}
 use Rattle.span_forest.specs.declared.span.Holder.{Holder}
 use Rattle.span_forest.specs.declared.span.Holder.TheVariants.{Handle, Entry}
 use Rattle.span_forest.specs.Node.{Node, with_fields}
-use Rattle.span_forest.specs.Spans.{Spans, find, IsOpen, with_node, with_change}
+use Rattle.span_forest.specs.Spans.{Spans, find, IsOpen, with_entry, with_change}
 use Rattle.span_forest.specs.Count.{holders}
 use Rattle.span_forest.specs.Live.{stands_in}
 use Rattle.span_forest.specs.Holders.{held_in, with_more}
@@ -45,7 +45,7 @@ pub record Makes (rules : List Filter) (ids : List ℕ) (old : World) (request :
   pub held : 0 < holders node
   pub bits : node.bits ≡ admission_set rules node.target node.level
   pub other : gives_back request ≡ false
-  pub spans : new.spans ≡ with_node old.spans id node
+  pub spans : new.spans ≡ with_entry old.spans id node
   pub closed : closed_by answer ≡ []
   pub left : spans_before_closing old request ≡ old.spans
   pub issued : id_issued answer ≡ id ∷ []

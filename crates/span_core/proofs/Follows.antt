@@ -8,7 +8,7 @@ use Rattle.span_forest.specs.Node.{new_node}
 use Rattle.span_forest.specs.Spans.{find}
 use Rattle.span_forest.specs.Forest.{IsForest}
 use Rattle.span_forest.specs.Count.{total_handles}
-use Rattle.span_forest.proofs.Adds.{find-with_same, find-with_other}
+use Rattle.span_slots.proofs.Entries.{find-with_same, find-with_other}
 use Rattle.span_forest.proofs.Spared.{not_some}
 use Rattle.span_forest.proofs.Handles.{handles-with, handles-fields, handles-kept_handle, handles-kept_entry, handles-left_handle, handles-left_entry}
 use Rattle.span_core.specs.World.{World}

@@ -15,7 +15,7 @@ use Rattle.span_forest.specs.Holders.{IsHeld, held_in, with_more}
 use Rattle.span_forest.specs.Keep.{with_holder}
 use Rattle.span_forest.specs.Release.{spans_left}
 use Rattle.span_forest.proofs.Totals.{total-with}
-use Rattle.span_forest.proofs.Adds.{find-with_other}
+use Rattle.span_slots.proofs.Entries.{find-with_other}
 use Rattle.span_stack.specs.Stack.{has, without_last}
 use Rattle.span_core.specs.World.{World, stack_of}
 use Rattle.span_outlet.specs.Request.{Request, new_span, clone_span, enter, exit, try_close, record_fields, event, made, worker_of}

@@ -6,7 +6,7 @@ use Rattle.span_layers.specs.Note.{PlainNote}
 use Rattle.span_layers.specs.Filter.{Filter, admission_set}
 use Rattle.span_forest.specs.declared.span.Holder.TheVariants.{Handle, Entry}
 use Rattle.span_forest.specs.Node.{new_node, with_fields}
-use Rattle.span_forest.specs.Spans.{Spans, find, with_node, with_change}
+use Rattle.span_forest.specs.Spans.{Spans, find, with_entry, with_change}
 use Rattle.span_forest.specs.Live.{stands_in}
 use Rattle.span_forest.specs.Holders.{held_in}
 use Rattle.span_forest.specs.Keep.{with_holder}
@@ -27,7 +27,7 @@ is_wanted_meta rules meta = length rules == 0 || not (admission_set rules meta.t
 abbrev pub world_made : List Filter → World → PlainMeta → List KeyValue → Option ℕ → ℕ → World
 world_made rules old meta fields parent id =
     record old {
-      spans = with_node old.spans id (new_node meta fields parent (admission_set rules meta.target meta.level));
+      spans = with_entry old.spans id (new_node meta fields parent (admission_set rules meta.target meta.level));
     }
 
 -- one handle more

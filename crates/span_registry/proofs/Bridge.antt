@@ -10,7 +10,7 @@ use Rattle.span_layers.specs.Filter.{admission_set}
 use Rattle.span_forest.specs.declared.span.Holder.{Holder}
 use Rattle.span_forest.specs.declared.span.Holder.TheVariants.{Handle, Entry}
 use Rattle.span_forest.specs.Node.{Node, new_node}
-use Rattle.span_forest.specs.Spans.{Spans, find, IsOpen, with_change, with_node}
+use Rattle.span_forest.specs.Spans.{Spans, find, IsOpen, with_change, with_entry}
 use Rattle.span_forest.specs.Live.{stands_in, is_live}
 use Rattle.span_forest.specs.Holders.{IsHeld, held_in, with_more, with_less}
 use Rattle.span_forest.specs.Keep.{with_holder}
@@ -164,7 +164,7 @@ added_of core new worker meta fields parent id legal one range accepted =
     let spans = core.world.spans in
     let node = new_node meta fields parent (admission_set core.rules meta.target meta.level) in
     let step = accepted.step.changes in
-    let after : new.world.spans ≡ with_node spans id node = ap (λ (v : World). v.spans) step.after in
+    let after : new.world.spans ≡ with_entry spans id node = ap (λ (v : World). v.spans) step.after in
     let absent : find spans id ≡ None = not_some (find spans id) (λ o. false≢true (sym step.id_is_new.1 ∙ w.open_issued id o)) in
     let here : find new.world.spans id ≡ Some node = ap (λ (s : Spans). find s id) after ∙ find-with_same spans id node absent in
     let other : (x : ℕ) → x ≢ id → find new.world.spans x ≡ find spans x = λ x ne. ap (λ (s : Spans). find s x) after ∙ find-with_other spans id x node ne in
