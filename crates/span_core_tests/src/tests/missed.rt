@@ -19,7 +19,8 @@ const FIRST_REFUSED: Play<'static> = Play {
         (0, Act::Close(1)),
         (0, Act::Exit(1)),
     ],
-    expected: "L0 new 1 w0 a\nL1 new 1 w0 a\n= 1\nL1 enter 1 w0 a\n= entered\n= open\nL0 exit 1 w0 a\nL1 exit 1 w0 a\nL0 close 1 w0 a\nL1 close 1 w0 a\n= closed\n",
+    expected: "L0 new 1 w0 a\nL1 new 1 w0 a\n= 1\nL1 enter 1 w0 a\n= entered\n= open\n\
+        L0 exit 1 w0 a\nL1 exit 1 w0 a\nL0 close 1 w0 a\nL1 close 1 w0 a\n= closed\n",
 };
 
 // The first of two layers is refused memory for the text of an entry.
