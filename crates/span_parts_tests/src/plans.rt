@@ -58,14 +58,10 @@ pub fn layer_with<A: Drop, F: Drop>(
     hooks: Hooks<A, F>,
 ) -> Result<Layer<A, F>, AllocError> {
     let (form, wanted, prefix, level) = *plan;
-    match rule(alloc, &[(prefix, level)]) {
-        Ok(rule) => {
-            let spans = spans_of(wanted);
-            let style = Style { form, spans };
-            Ok(Layer { style, rule, hooks })
-        }
-        Err(error) => Err(error),
-    }
+    let rule = rule(alloc, &[(prefix, level)])?;
+    let spans = spans_of(wanted);
+    let style = Style { form, spans };
+    Ok(Layer { style, rule, hooks })
 }
 
 /// Adds a layer of this plan with these hooks.
@@ -75,10 +71,7 @@ pub fn add<A: Drop, F: Drop>(
     plan: &Plan,
     hooks: Hooks<A, F>,
 ) -> Result<(), Fault> {
-    match layer_with(alloc, plan, hooks) {
-        Ok(layer) => added(layers, layer),
-        Err(_) => Err(Fault::Memory),
-    }
+    added(layers, layer_with(alloc, plan, hooks)?)
 }
 
 fn added<A: Drop, F: Drop>(layers: &mut Layers<A, F>, layer: Layer<A, F>) -> Result<(), Fault> {
@@ -91,10 +84,8 @@ fn added<A: Drop, F: Drop>(layers: &mut Layers<A, F>, layer: Layer<A, F>) -> Res
 /// Layers of these plans with no closures.
 pub fn plain_layers(alloc: Global, plans: &[Plan]) -> Result<Layers<ByRule, ByForm>, Fault> {
     let mut layers = Layers::new(alloc);
-    match add_all(alloc, &mut layers, plans) {
-        Ok(()) => Ok(layers),
-        Err(fault) => Err(fault),
-    }
+    add_all(alloc, &mut layers, plans)?;
+    Ok(layers)
 }
 
 fn add_all(

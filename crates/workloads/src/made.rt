@@ -95,8 +95,5 @@ fn in_a_storm<R: Threads + Wait + Sync>(
 }
 
 fn numbers_of(ended: Result<Ended, Fault>) -> Result<Made, Fault> {
-    match ended {
-        Ok(ended) => Ok(ended.made()),
-        Err(fault) => Err(fault),
-    }
+    Ok(ended?.made())
 }
