@@ -3,7 +3,7 @@ ghost use Rattle.std.specs.Prelude.{◌≡◌, [], Some};
 ghost use Rattle.span_registry.specs.Blanks.{blanks_of};
 
 use crate::tests::registry::acts::Act;
-use crate::tests::registry::layers::{Plan, PlainDrain, PlainRegistry, layers};
+use crate::tests::registry::layers::{PlainDrain, PlainRegistry, Plan, layers};
 use crate::tests::registry::on_registry::calls;
 use crate::tests::registry::parts::{Part, gather, whole_share};
 use span_id::Limits;
