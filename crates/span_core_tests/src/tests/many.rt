@@ -5,9 +5,9 @@ use crate::tests::compare::{holds, same};
 use crate::tests::hooks::layers;
 use crate::tests::on_a_ring::played_on_ring;
 use crate::tests::play::Play;
+use span_component_tests::plans::{EVERYTHING, Plan, Wanted};
 use span_id::{Level, Limits};
 use span_layers::Form;
-use span_parts_tests::plans::{EVERYTHING, Plan, Wanted};
 
 const LIMITS: Limits = Limits {
     slots: 500,

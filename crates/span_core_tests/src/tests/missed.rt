@@ -2,10 +2,10 @@
 use crate::tests::acts::Act;
 use crate::tests::hooks::{add_plan, layers};
 use crate::tests::play::{Play, SMALL, ends, played_on};
+use span_component_tests::plans::EVERYTHING;
+use span_component_tests::watch::Refused;
 use span_layers::{Kind, Layers};
 use span_outlet::Kept;
-use span_parts_tests::plans::EVERYTHING;
-use span_parts_tests::watch::Refused;
 use std::alloc::Global;
 use std::process::Abort;
 

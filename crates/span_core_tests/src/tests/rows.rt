@@ -2,9 +2,9 @@
 use crate::tests::acts::Act;
 use crate::tests::play::{Play, THREE_WORKERS, plays};
 use crate::tests::{chain, closing_lists, sharing, workers};
+use span_component_tests::plans::{EVERYTHING, Plan, Wanted};
 use span_id::{Level, Limits};
 use span_layers::Form;
-use span_parts_tests::plans::{EVERYTHING, Plan, Wanted};
 
 const NO_KIND: Plan<'static> = (Form::Compact, Wanted::None, "", Level::Trace);
 

@@ -2,10 +2,10 @@
 use crate::tests::acts::Act;
 use crate::tests::compare::holds;
 use crate::tests::play::{Play, SMALL, played};
+use span_component_tests::plans::{EVERYTHING, Plan, Wanted};
 use span_id::Level;
 use span_layers::{Form, Note};
 use span_outlet::{Batch, Call};
-use span_parts_tests::plans::{EVERYTHING, Plan, Wanted};
 use std::sync::ArcStr;
 
 // How many notes share the text of the first one's path.

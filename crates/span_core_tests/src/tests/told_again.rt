@@ -1,9 +1,9 @@
 //! Paths that are told again at a span whose layers are so many that the paths of two take each other's place.
 use crate::tests::acts::Act;
 use crate::tests::play::{Play, SMALL};
+use span_component_tests::plans::{EVERYTHING, Plan, Wanted};
 use span_id::{Level, Limits};
 use span_layers::Form;
-use span_parts_tests::plans::{EVERYTHING, Plan, Wanted};
 
 const LIMITS: Limits = Limits { ring: 16, ..SMALL };
 
