@@ -23,7 +23,7 @@ from parts import LIBRARIES, PARTS, QUICK, TOP, tell_lack
 sys.path.insert(0, str(TOP / "bench"))
 import gate  # noqa: E402
 
-WAITS = {"tracerun": 2, "hostile_use": 29, "workloads": 42, "span_benchmark": 36}
+WAITS = {"tracerun": 2, "refused_memory": 29, "call_loops": 42, "span_benchmark": 36}
 CRATES = "low: # the lowest\n" + "".join([*(f"{name} may_wait={number}: low\n" for name, number in WAITS.items()),
                                          *(f"{name} staticlib: low\n" for name in LIBRARIES)])
 FAKED = [it for it in PARTS if it.needs != "gate"]

@@ -50,7 +50,7 @@ LIBRARIES = {it: Part("whole", f"the static library {it}", "", AS_ONE.format("rt
 PARTS = [it for it in table() if it.when != "quick"]
 QUICK = [it for it in table() if it.when != "whole"]
 # What parts need of crates.
-BUILT = {it: TOP / f"crates/{it}/out/{it}" for it in ("tracerun", "hostile_use", "workloads", "span_benchmark")}
+BUILT = {it: TOP / f"crates/{it}/out/{it}" for it in ("tracerun", "refused_memory", "call_loops", "span_benchmark")}
 BUILT.update({it: COPY / f"crates/{it}/out/lib{it}.a" for it in LIBRARIES})
 
 

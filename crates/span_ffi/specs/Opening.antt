@@ -5,6 +5,8 @@ use Rattle.span_id.specs.declared.limits.Limits.{Limits}
 use Rattle.span_id.specs.Limits.{AreInRange}
 use Rattle.span_layers.specs.declared.form.Form.{Form}
 use Rattle.span_layers.specs.declared.form.Form.TheVariants.{Compact, Json}
+use Rattle.span_layers.specs.declared.style.TheConstants.FmtSpan.{FULL}
+use Rattle.span_layers.specs.FmtSpan.{bits_of}
 use Rattle.span_layers.specs.Rule.{Pair}
 use Rattle.span_layers.specs.Filter.{Filter}
 use Rattle.span_outlet.specs.LineReader.{LineReaderView}
@@ -48,7 +50,7 @@ behind_rules (rule ∷ rules) bytes = behind_rules rules (drop rule.prefix_len b
 -- the form and the kinds are there, and the layer has its rules
 pub record IsLayer (layer : SpanLayer) (rules : List SpanRule) (bytes : List ℕ) : Type 0 where
   pub form : layer.form ≤ 1
-  pub kinds : layer.kinds ≤ 15
+  pub kinds : layer.kinds ≤ bits_of FULL
   pub enough : layer.rules ≤ length rules
   pub rules_are : AreRules (take layer.rules rules) bytes
 

@@ -11,12 +11,9 @@ use span_registry::Report;
 use span_run::{Counted, WriteFailed, write_text};
 use std::io::Write;
 
-// A number and what it counts.
+// What is counted, and its number.
 #[derive(Clone, Copy)]
-struct Row {
-    label: &'static str,
-    number: u64,
-}
+struct Row(&'static str, u64);
 
 /// Writes how a storm of so many workers and rounds ended: eight lines with a number each. It takes no memory, and does
 /// not flush.
@@ -82,7 +79,7 @@ fn write_rows<W: Write>(rows: &[Row], output: &mut Counted<W>) -> Result<(), Wri
     ensures flushes { flushes_of output.new ≡ flushes_of output.old }
 {
     for row in rows {
-        write_line(row.label, row.number, output)?;
+        write_line(row.0, row.1, output)?;
     }
     Ok(())
 }

@@ -4,13 +4,13 @@ use crate::tests::answers::{Answer, push, push_answer};
 use crate::tests::hooks::{add_plan, layers};
 use crate::tests::play::{Play, SMALL, Transcript, ends};
 use crate::tests::{strangers, told_again};
+use span_component_tests::lines::shown;
+use span_component_tests::plans::EVERYTHING;
+use span_component_tests::watch::Refused;
 use span_core::Core;
 use span_id::Limits;
 use span_layers::{Kind, Layers};
 use span_outlet::{Drain, Ring};
-use span_parts_tests::lines::shown;
-use span_parts_tests::plans::EVERYTHING;
-use span_parts_tests::watch::Refused;
 use std::alloc::Global;
 use std::process::Abort;
 

@@ -129,17 +129,32 @@ Ok([Id { number: 1 }, Id { number: 2 }, Id { number: 3 }])
 Ok([Held { id: Id { number: 2 }, handles: 2, entries: 2 }, Held { id: Id { number: 3 }, handles: 1, entries: 0 }])
 Ok([Held { id: Id { number: 2 }, handles: 2, entries: 2 }])
 Ok([])
-Ok([SpanDetails { id: Id { number: 1 }, meta: Meta { name: \"a\", target: \"app\", level: Info }, parent: None, handles: 0, workers: [], children: 1 }, SpanDetails { id: Id { number: 2 }, meta: Meta { name: \"b\", target: \"app\", level: Info }, parent: Some(Id { number: 1 }), handles: 2, workers: [0, 1], children: 0 }, SpanDetails { id: Id { number: 3 }, meta: Meta { name: \"c\", target: \"app\", level: Info }, parent: None, handles: 1, workers: [], children: 0 }])
+Ok([SpanDetails { id: Id { number: 1 }, meta: Meta { name: \"a\", target: \"app\", level: Info }, \
+    parent: None, handles: 0, workers: [], children: 1 }, SpanDetails { id: Id { number: 2 }, \
+    meta: Meta { name: \"b\", target: \"app\", level: Info }, parent: Some(Id { number: 1 }), \
+    handles: 2, workers: [0, 1], children: 0 }, SpanDetails { id: Id { number: 3 }, \
+    meta: Meta { name: \"c\", target: \"app\", level: Info }, parent: None, handles: 1, \
+    workers: [], children: 0 }])
 Ok([Id { number: 1 }, Id { number: 2 }, Id { number: 3 }])
 Ok([Held { id: Id { number: 2 }, handles: 2, entries: 2 }, Held { id: Id { number: 3 }, handles: 1, entries: 0 }])
 Ok([Held { id: Id { number: 2 }, handles: 2, entries: 2 }])
 Ok([0, 1])
-Ok([SpanDetails { id: Id { number: 1 }, meta: Meta { name: \"a\", target: \"app\", level: Info }, parent: None, handles: 0, workers: [], children: 1 }, SpanDetails { id: Id { number: 2 }, meta: Meta { name: \"b\", target: \"app\", level: Info }, parent: Some(Id { number: 1 }), handles: 2, workers: [0, 1], children: 0 }, SpanDetails { id: Id { number: 3 }, meta: Meta { name: \"c\", target: \"app\", level: Info }, parent: None, handles: 1, workers: [], children: 0 }])
+Ok([SpanDetails { id: Id { number: 1 }, meta: Meta { name: \"a\", target: \"app\", level: Info }, \
+    parent: None, handles: 0, workers: [], children: 1 }, SpanDetails { id: Id { number: 2 }, \
+    meta: Meta { name: \"b\", target: \"app\", level: Info }, parent: Some(Id { number: 1 }), \
+    handles: 2, workers: [0, 1], children: 0 }, SpanDetails { id: Id { number: 3 }, \
+    meta: Meta { name: \"c\", target: \"app\", level: Info }, parent: None, handles: 1, \
+    workers: [], children: 0 }])
 Ok([Id { number: 1 }, Id { number: 2 }, Id { number: 3 }])
 Ok([Held { id: Id { number: 2 }, handles: 2, entries: 2 }, Held { id: Id { number: 3 }, handles: 1, entries: 0 }])
 Ok([Held { id: Id { number: 3 }, handles: 1, entries: 0 }])
 Ok([])
-Ok([SpanDetails { id: Id { number: 1 }, meta: Meta { name: \"a\", target: \"app\", level: Info }, parent: None, handles: 0, workers: [], children: 1 }, SpanDetails { id: Id { number: 2 }, meta: Meta { name: \"b\", target: \"app\", level: Info }, parent: Some(Id { number: 1 }), handles: 2, workers: [0, 1], children: 0 }, SpanDetails { id: Id { number: 3 }, meta: Meta { name: \"c\", target: \"app\", level: Info }, parent: None, handles: 1, workers: [], children: 0 }])
+Ok([SpanDetails { id: Id { number: 1 }, meta: Meta { name: \"a\", target: \"app\", level: Info }, \
+    parent: None, handles: 0, workers: [], children: 1 }, SpanDetails { id: Id { number: 2 }, \
+    meta: Meta { name: \"b\", target: \"app\", level: Info }, parent: Some(Id { number: 1 }), \
+    handles: 2, workers: [0, 1], children: 0 }, SpanDetails { id: Id { number: 3 }, \
+    meta: Meta { name: \"c\", target: \"app\", level: Info }, parent: None, handles: 1, \
+    workers: [], children: 0 }])
 = open
 = open
 = open
@@ -148,13 +163,19 @@ Ok([Id { number: 1 }, Id { number: 2 }, Id { number: 3 }])
 Ok([Held { id: Id { number: 2 }, handles: 0, entries: 1 }, Held { id: Id { number: 3 }, handles: 1, entries: 0 }])
 Ok([Held { id: Id { number: 2 }, handles: 0, entries: 1 }])
 Ok([])
-Ok([SpanDetails { id: Id { number: 1 }, meta: Meta { name: \"a\", target: \"app\", level: Info }, parent: None, handles: 0, workers: [], children: 1 }, SpanDetails { id: Id { number: 2 }, meta: Meta { name: \"b\", target: \"app\", level: Info }, parent: Some(Id { number: 1 }), handles: 0, workers: [0], children: 0 }, SpanDetails { id: Id { number: 3 }, meta: Meta { name: \"c\", target: \"app\", level: Info }, parent: None, handles: 1, workers: [], children: 0 }])
+Ok([SpanDetails { id: Id { number: 1 }, meta: Meta { name: \"a\", target: \"app\", level: Info }, \
+    parent: None, handles: 0, workers: [], children: 1 }, SpanDetails { id: Id { number: 2 }, \
+    meta: Meta { name: \"b\", target: \"app\", level: Info }, parent: Some(Id { number: 1 }), \
+    handles: 0, workers: [0], children: 0 }, SpanDetails { id: Id { number: 3 }, \
+    meta: Meta { name: \"c\", target: \"app\", level: Info }, parent: None, handles: 1, \
+    workers: [], children: 0 }])
 = closed
 Ok([Id { number: 3 }])
 Ok([Held { id: Id { number: 3 }, handles: 1, entries: 0 }])
 Err(Unknown)
 Ok([])
-Ok([SpanDetails { id: Id { number: 3 }, meta: Meta { name: \"c\", target: \"app\", level: Info }, parent: None, handles: 1, workers: [], children: 0 }])
+Ok([SpanDetails { id: Id { number: 3 }, meta: Meta { name: \"c\", target: \"app\", level: Info }, \
+    parent: None, handles: 1, workers: [], children: 0 }])
 = closed
 Ok([])
 Ok([])
