@@ -174,7 +174,7 @@ def parts_left_out(rows, clone):
     os.remove(clone.path.split(":")[0] + "/valgrind")
     commands = f"{os.path.dirname(clone.fake)}/commands"
     os.mkdir(commands)
-    for name in ("bash", "sh", "python3", "readlink", "dirname", "cat", "mkdir", "touch", "env", "sleep"):
+    for name in ("bash", "sh", "python3", "readlink", "dirname", "cat", "mkdir", "touch", "env", "sleep", "rm"):
         os.symlink(shutil.which(name), f"{commands}/{name}")
     found = clone.run(path=f"{clone.path.split(':')[0]}:{commands}")
     passed = 5 + len(LISTED) + len(LIBRARIES) + 4 * (len(FAKED) - on_valgrind)

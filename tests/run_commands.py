@@ -207,7 +207,7 @@ def lacks(run):
 
 def fault_of(command, how, room):
     """What is wrong with how a command ends; none where all is well."""
-    places = {**os.environ, "ROOM": str(room), "COPY": str(room / "copy")}
+    places = {**os.environ, **tracing_yard.LEAN, "ROOM": str(room), "COPY": str(room / "copy")}
     places.pop("CARGO_TARGET_DIR", None)  # (the peer is looked for where cargo puts it by itself)
     try:
         done = subprocess.run(["bash", "-c", how.line or command], cwd=room / "copy", env=places, timeout=SECONDS,

@@ -16,6 +16,8 @@ outside), and of ProvedSubscriber with its example (the part under), these under
 With --figures what pages say of a run in which all passed goes to bench/figures (tests/figures.py): how many of the
 crate's own tests pass, how many spans stress made, and how many of them stayed open over the original.
 
+What a part has built goes as soon as nothing needs it, and it has no debug information: the disk may be small.
+
 Without cargo and patch, or without Debian's packages of the crates' sources, nothing is run, and that is said.
 """
 
@@ -198,8 +200,8 @@ def build_programs(yard, name, *words):
     bins.mkdir(exist_ok=True)
     for source in (folder / "src/bin").glob("*.rs"):
         if "--bin" not in words or source.stem in words:
-            shutil.copyfile(yard.folder / "target/release" / source.stem, bins / source.stem)
-            (bins / source.stem).chmod(0o755)
+            # (cargo has it by another name, too)
+            (yard.folder / "target/release" / source.stem).replace(bins / source.stem)
     return bins
 
 
@@ -267,6 +269,7 @@ def run_parking_lot(yard, ours, count):
         is_whole = len(answers[0]) == len(answers[1]) > 10
         count.check(is_whole and not other, f"behaviour answers the same over parking_lot: {other[:3]}")
         check_run(count, "parking_lot, ", bins / "holds", [], 60)
+    yard.clear("parking_lot")
 
 
 def run_lay(yard, count):
@@ -293,6 +296,7 @@ def run_limits(yard, count):
     for limit, most in SMALL_LIMITS if bins else []:
         said, status = run(bins / "limits", [limit, str(most)], 120)
         count.check(status == 0, f"limits {limit} {most}: status {status}\n{said[-3000:]}")
+    yard.clear("small")
 
 
 def stressed(said):
@@ -344,9 +348,11 @@ def run_programs(yard, count, seconds, seed):
     said = {program: check_run(count, "", ours / program, words, limit) for program, words, limit in [*SOUND, stress]}
     run_limits(yard, count)
     run_parking_lot(yard, ours, count)
+    yard.clear("target")
     said_there = {program: check_run(count, "the original, ", original / program, words, limit, fault)
                   for program, words, limit, fault in UNSOUND}
     run_under_valgrind(ours, count)
+    yard.clear("original", "copy")
     return stress_figures(said["stress"], said_there["stress"], seconds)
 
 
@@ -436,6 +442,7 @@ def run_over_store(yard, parts, seconds, seed, count):
         run_example(yard, count)
     if "suites" in parts:
         found.update(run_suites(yard, count))
+    yard.clear("example", "lay", "original", "copy", "target")
     return found
 
 
@@ -467,7 +474,7 @@ def main():
             print("there is no library\n0 passed, 1 failed")
             return 1
     with tempfile.TemporaryDirectory() as made:
-        yard = Yard((asked.folder or Path(made)).resolve(), library, asked.jobs)
+        yard = Yard((asked.folder or Path(made)).resolve(), library, asked.jobs, is_kept=asked.folder is not None)
         found = run_over_store(yard, parts, asked.seconds, asked.seed, count)
         if set(parts) & set(PARTS_OF_REGISTRY):
             run_over_registry(yard, asked.registry_library, parts, count)

@@ -30,6 +30,8 @@ PATIENCE = 4
 # The memory of the program that is to run out of it.
 LITTLE = {"memory": 256 << 20}
 VALGRIND = ["valgrind", "--quiet", "--error-exitcode=99", "--fair-sched=yes"]
+# What cargo builds takes a fraction of the disk so: nothing for a debugger, and nothing that makes the next build faster.
+LEAN = {"CARGO_INCREMENTAL": "0", "CARGO_PROFILE_DEV_DEBUG": "0"}
 
 
 class Count:
@@ -59,10 +61,11 @@ def missing():
 class Yard:
     """A folder in which crates are built: with the original, and with the copy that stands on the proved store."""
 
-    def __init__(self, folder, library, jobs):
+    def __init__(self, folder, library, jobs, is_kept=True):
         self.folder = folder
         self.library = library
         self.jobs = jobs
+        self.is_kept = is_kept
         (folder / ".cargo").mkdir(parents=True, exist_ok=True)
         (folder / ".cargo/config.toml").write_text(CONFIG)
 
@@ -72,12 +75,17 @@ class Yard:
         source = REGISTRY / "tracing-subscriber-0.3.16"
         subprocess.run([OURS / "lay", folder, "--from", source, "--library", self.library], check=True)
 
+    def clear(self, *names):
+        """Removes folders that no later part needs, where the yard isn't kept."""
+        for name in () if self.is_kept else names:
+            shutil.rmtree(self.folder / name, ignore_errors=True)
+
     def cargo(self, command, folder, *words):
         """Runs cargo, with one folder of what is built for all crates."""
         line = ["cargo", command, "--offline", "-j", str(self.jobs), *words]
         # One test at a time: tests with dispatchers of their own in one process may switch off each other's call sites,
         # since tracing-core asks the thread's default alone for their interest while it knows of one dispatcher only.
-        environment = {**os.environ, "CARGO_TARGET_DIR": str(self.folder / "target"), "RUST_BACKTRACE": "0",
+        environment = {**os.environ, **LEAN, "CARGO_TARGET_DIR": str(self.folder / "target"), "RUST_BACKTRACE": "0",
                        "RUST_TEST_THREADS": "1"}
         return subprocess.run(line, cwd=folder, env=environment, stdin=subprocess.DEVNULL, text=True,
                               stdout=subprocess.PIPE, stderr=subprocess.STDOUT)
