@@ -14,10 +14,11 @@ import subprocess
 import sys
 import tempfile
 from contextlib import redirect_stderr, redirect_stdout
+from types import SimpleNamespace
 from unittest.mock import patch
 
 from figures import names_in, read_figures
-from parts import LIBRARIES, PARTS, QUICK, TOP
+from parts import LIBRARIES, PARTS, QUICK, TOP, tell_lack
 
 sys.path.insert(0, str(TOP / "bench"))
 import gate  # noqa: E402
@@ -209,6 +210,18 @@ def others(rows, clone):
     rows.wants("broken off: nothing is left", found, 143, "[]")
 
 
+def small_disks(rows, clone):
+    # (both are on one disk)
+    took = {clone.at: 1 << 30, clone.room: 2 << 30}
+    for free, wanted in ((3 << 30, ""), ((3 << 30) - 1, f"check: {clone.at} has 3071 MiB of disk left, ")):
+        said = io.StringIO()
+        there = patch("shutil.disk_usage", return_value=SimpleNamespace(free=free))
+        with there, patch("parts.TOOK", took), redirect_stdout(said):
+            tell_lack()
+        lines = said.getvalue().splitlines()
+        rows.wants(f"{free} bytes of disk", (len(lines), "", said.getvalue()), bool(wanted), "", wanted)
+
+
 def measured(rows, clone):
     for words in ("init -q", "add .", "-c user.name=a -c user.email=a@example.org commit -q -m a"):
         subprocess.run(["git", "-C", clone.at, *words.split()], check=True)
@@ -233,7 +246,7 @@ def measured(rows, clone):
 
 def main():
     rows = Rows()
-    for part in (wholes, parts_left_out, others, measured):
+    for part in (wholes, parts_left_out, others, small_disks, measured):
         with tempfile.TemporaryDirectory() as folder:
             part(rows, Clone(folder))
     print(f"{rows.passed} passed, {rows.failed} failed")

@@ -2,14 +2,13 @@
 """Runs all that `./check` is: `rt ci`, `rt lib` of the static libraries, and the parts that the table parts.txt lists.
 
 usage: parts.py [--quick|--anew|CRATE..]
-
 `rt ci` has the crates to itself. Beside it run the parts that need nothing, one after the other, and `rt lib`, in a
 copy of the sources in kozhumir/libraries of the user's cache, and then the parts on the libraries. Those on the
 programs that `rt ci` leaves in crates/NAME/out/ run after it, side by side, and the libraries are copied there. A part
 whose program or library wasn't made failed; one whose tool isn't on the PATH isn't run, and says so. With --quick
 nothing is proved, and the parts for which that is enough run side by side; with --anew neither `rt ci` nor the copy
-takes a proof of an earlier run; crates that are named are checked and tested, and nothing else is. RT_JOBS, which says
-how many crates `rt` proves at once, is set where it isn't. The last line is 'N passed, M failed', the parts' sums.
+takes a proof of an earlier run; crates that are named are checked and tested, in this order, and nothing else is.
+RT_JOBS, which says how many crates `rt` proves at once, is set where it isn't. The last line is the parts' sums.
 """
 import os
 import re
@@ -31,8 +30,9 @@ COPY = of_this_clone("libraries")
 COUNTS = re.compile(r"(\d+) passed, (\d+) failed\b")
 AS_ONE = "sh -c '{} && echo 1 passed, 0 failed || echo 0 passed, 1 failed'"
 JOBS = processors(4 << 30)  # (how many crates are proved at once)
-# A row of the table.
-Part = namedtuple("Part", "when name needs command folder", defaults=[""])
+# How many bytes of the disk a run from nothing took: in the clone, in the copy, and where parts build.
+TOOK = {TOP: 3 << 30, COPY: 1 << 30, Path(tempfile.gettempdir()): 2 << 30}
+Part = namedtuple("Part", "when name needs command folder", defaults=[""])  # (a row of the table)
 # A part that ended: what it said, what it counted, and its seconds on the clock and of processors.
 Ended = namedtuple("Ended", "name lines passed failed seconds cpu", defaults=[0, 0])
 
@@ -66,8 +66,7 @@ class Runs:
 
     def __init__(self, room):
         self.files = {"gate": Path(room) / "gate", **BUILT}
-        library, compiler = BUILT["span_ffi"].parent, os.environ.get("CC", "cc")
-        self.places = {"room": room, "cc": compiler, "library": library, **self.files}
+        self.places = {"room": room, "cc": os.environ.get("CC", "cc"), "library": BUILT["span_ffi"].parent, **self.files}
         self.made, self.is_over = set(), False
 
     def why_not(self, part):
@@ -97,8 +96,7 @@ class Runs:
         return ended
 
     def has_made(self, names, begun):
-        """Gives what was made the time when that began, since it is of the sources as they were then (./tracerun and
-        others look whether one is newer)."""
+        """Gives what was made the time when that began: it is of the sources as they were then (./tracerun looks)."""
         self.made.update(names)
         for path in (BUILT[name] for name in names if name in BUILT and BUILT[name].exists()):
             os.utime(path, (begun, begun))
@@ -109,12 +107,22 @@ def shown(ended):
     return ended
 
 
+def tell_lack():
+    """Tells of a disk that has less room than a run from nothing took there, if one has."""
+    for place in TOOK:
+        took = sum(of_it for other, of_it in TOOK.items() if os.stat(other).st_dev == os.stat(place).st_dev)
+        if (free := shutil.disk_usage(place).free) < took:
+            return print(f"check: {place} has {free >> 20} MiB of disk left, where a run from nothing took {took >> 20}: "
+                         "make room, or name folders of another disk by TMPDIR and XDG_CACHE_HOME", flush=True)
+
+
 def all_parts(runs, is_anew):
     """Runs each part, and gives it when it has ended and been shown."""
     os.environ.setdefault("RT_JOBS", str(JOBS))
     if is_anew:
         shutil.rmtree(COPY, ignore_errors=True)
     lay_copy([it.name for it in TOP.glob("crates/*")], COPY)
+    tell_lack()
     *others, last = PARTS
     on_libraries = [it for it in others if LIBRARIES.keys() & {*it.needs.split()}]
     on_programs = [it for it in others if it.needs and it not in on_libraries]

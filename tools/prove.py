@@ -2,16 +2,14 @@
 """Proves crates, and builds the program that is the last of them; `./tracerun --prove` runs it.
 
 usage: prove.py CRATE..
-
 The crates are named lowest first. Each is proved by `rt lib` once those below it are, side by side with others, and the
-program is proved and built by `rt run`. Since a run of rt has the crates below to itself, each crate is proved in a
-room of its own, in kozhumir/proving of the user's cache: the sources, what rt kept of the crates below when it proved
-them, and the crate's folder out/ of the clone, with which rt begins (one make of rt can use it in any place). That
-goes back into the clone at the end, also where not all is proved.
-
-Standard error tells how far it is. What is left is guessed by the times of the last run on this machine that proved a
-crate from nothing, kept in kozhumir/prove_times, else by prove_times.txt beside this file: a crate, its functions, and
-the seconds on the clock. The status is 0, or 4 where not all is proved, after what rt said of that.
+program is proved and built by `rt run`. Since a run of rt has the crates below to itself, each crate is proved in a room
+of its own, in kozhumir/proving of the user's cache: the sources, what rt kept of the crates below when it proved them,
+and the crate's folder out/ of the clone, with which rt begins (one make of rt can use it in any place). That goes back
+into the clone at the end, also where not all is proved. Standard error tells how far it is. What is left is guessed by
+the times of the last run on this machine that proved a crate from nothing, kept in kozhumir/prove_times, else by
+prove_times.txt beside this file: a crate, its functions, and the seconds on the clock. The status is 0, or 4 where not
+all is proved, after what rt said of that.
 """
 import contextlib
 import fcntl

@@ -2,7 +2,6 @@
 """Runs the program tracerun unproved, by `rt try`; `./tracerun` does so where the proved one isn't there or is older.
 
 usage: unproved.py WORD..
-
 `rt try` compiles the program, with checks at each access and each sum, and gives its output when it has ended. What it
 says itself stands last on standard error and is not shown where the program ended: standard output, standard error and
 the status are the program's. Else the status is 4, and standard error says why there is no answer.
