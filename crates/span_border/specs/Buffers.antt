@@ -11,7 +11,7 @@ WritesAll things old Done new len =
 WritesAll things old ShortBuffer new len = (length old < length things) × (new ≡ old) × (len ≡ length things)
 WritesAll things old _ new len = ⊥
 
--- a length, or other numbers that are told also where a buffer is too short, is as it was, unless it was told
+-- numbers that are told also where a buffer is too short, as a length is: they are as they were, unless they were told
 abbrev pub KeepsNumbers : {X : Type 0} → Option Status → X → X → Type 0
 KeepsNumbers (Some Done) old new = Unit {0}
 KeepsNumbers (Some ShortBuffer) old new = Unit {0}
