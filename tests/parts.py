@@ -66,7 +66,7 @@ class Runs:
 
     def __init__(self, room):
         self.files = {"gate": Path(room) / "gate", **BUILT}
-        self.places = {"room": room, "cc": os.environ.get("CC", "cc"), "library": BUILT["span_ffi"].parent, **self.files}
+        self.places = dict(self.files, room=room, cc=os.environ.get("CC", "cc"), library=BUILT["span_ffi"].parent)
         self.made, self.is_over = set(), False
 
     def why_not(self, part):
@@ -112,8 +112,8 @@ def tell_lack():
     for place in TOOK:
         took = sum(of_it for other, of_it in TOOK.items() if os.stat(other).st_dev == os.stat(place).st_dev)
         if (free := shutil.disk_usage(place).free) < took:
-            return print(f"check: {place} has {free >> 20} MiB of disk left, and a run from nothing takes {took >> 20} or more"
-                         ": make room, or name folders of other disks by TMPDIR and XDG_CACHE_HOME", flush=True)
+            return print(f"check: {place} has {free >> 20} MiB left, and a run from nothing takes {took >> 20} or "
+                         "more: make room, or name folders of other disks by TMPDIR and XDG_CACHE_HOME", flush=True)
 
 
 def all_parts(runs, is_anew):
