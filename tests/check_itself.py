@@ -213,7 +213,8 @@ def others(rows, clone):
 def small_disks(rows, clone):
     # (both are on one disk)
     took = {clone.at: 1 << 30, clone.room: 2 << 30}
-    for free, wanted in ((3 << 30, ""), ((3 << 30) - 1, f"check: {clone.at} has 3071 MiB of disk left, ")):
+    told = f"check: {clone.at} has 3071 MiB left, and a run from nothing takes 3072 or more: make room"
+    for free, wanted in ((3 << 30, ""), ((3 << 30) - 1, told)):
         said = io.StringIO()
         there = patch("shutil.disk_usage", return_value=SimpleNamespace(free=free))
         with there, patch("parts.TOOK", took), redirect_stdout(said):

@@ -135,7 +135,7 @@ struct SpanSizes {
     counts: u32,
 }
 
-const ABI_VERSION: u32 = 2;
+const ABI_VERSION: u32 = 3;
 
 pub(crate) const OK: u32 = 0;
 pub(crate) const UNKNOWN: u32 = 1;

@@ -52,15 +52,15 @@ abbrev pub note_pairs : PlainNote → List KeyValue
 note_pairs note = (note.path, message_in note.event) ∷ note.fields
 
 -- what is told of a note: its numbers, how long the key and the value of each field are, and its texts one after another;
--- or only how many fields and bytes these are, where a buffer is too short for them; or nothing, where a number is too
--- small
+-- or only its numbers, and how many fields and bytes these are, where a buffer is too short for them; or nothing, where a
+-- number is too small
 abbrev pub TellsNote : ℕ → PlainNote → SpanNote → Filling SpanField → Filling ℕ → Status → Type 0
 TellsNote batch note told fields bytes Done =
     (are_tellable (note_pairs note) ≡ true) × (told ≡ note_numbers batch note)
     × FillsWith (map field_lengths note.fields) fields × FillsWith (packed (note_pairs note)) bytes
 TellsNote batch note told fields bytes ShortBuffer =
-    (are_tellable (note_pairs note) ≡ true) × (fields.len ≡ length note.fields)
-    × (bytes.len ≡ length (packed (note_pairs note)))
+    (are_tellable (note_pairs note) ≡ true) × (told ≡ note_numbers batch note)
+    × (fields.len ≡ length note.fields) × (bytes.len ≡ length (packed (note_pairs note)))
     × ((length note.fields ≤ length fields.old) × (length (packed (note_pairs note)) ≤ length bytes.old) → ⊥)
 TellsNote batch note told fields bytes (Refused CountFull) = are_tellable (note_pairs note) ≡ false
 TellsNote batch note told fields bytes _ = ⊥
@@ -71,7 +71,7 @@ TellsNoteOf view line told fields bytes status =
     (note : PlainNote) × IsNoteOf view line note × TellsNote line.batch note told fields bytes status
 
 -- The first line that waits is given out as `GivesLine` says, but that its note is told in its place. Where that isn't
--- told, the line stays the first one.
+-- told whole, the line stays the first one.
 abbrev pub GivesNote : SpanNote → Filling SpanField → Filling ℕ → LineReaderView → Status → LineReaderView → Type 0
 GivesNote told fields bytes old Done new =
     (line : PlainLine) × Fills old (record new { given = old.given; waiting = line ∷ new.waiting })

@@ -33,38 +33,14 @@ pub fn show<W: Write>(
     ensures flushes { flushes_of output.new ≡ flushes_of output.old }
 {
     let rows = [
-        Row {
-            label: "workers",
-            number: u64::from(workers),
-        },
-        Row {
-            label: "rounds",
-            number: u64::from(rounds),
-        },
-        Row {
-            label: "made",
-            number: report.made,
-        },
-        Row {
-            label: "closed",
-            number: report.closed,
-        },
-        Row {
-            label: "calls",
-            number: report.calls,
-        },
-        Row {
-            label: "lines",
-            number: report.lines.len() as u64,
-        },
-        Row {
-            label: "refused",
-            number: report.missed,
-        },
-        Row {
-            label: "left",
-            number: u64::from(report.left),
-        },
+        Row("workers", u64::from(workers)),
+        Row("rounds", u64::from(rounds)),
+        Row("made", report.made),
+        Row("closed", report.closed),
+        Row("calls", report.calls),
+        Row("lines", report.lines.len() as u64),
+        Row("refused", report.missed),
+        Row("left", u64::from(report.left)),
     ];
     write_rows(&rows, output)
 }
