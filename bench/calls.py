@@ -1,7 +1,7 @@
 #!/usr/bin/env python3
 """Measures what a call of the library costs beside the peer: loops of new, enter, event, exit and close.
 
-Each loop is run by `workloads call-costs` (crates/workloads) and by the peer in turn, on a registry without its lock
+Each loop is run by `call_loops call-costs` (crates/call_loops) and by the peer in turn, on a registry without its lock
 (`core`) and on one whose lock each call takes (`registry`), from which the time under the lock is seen. The lines are
 written by a reader of the ring in the same thread and dropped. Told are nanoseconds of CPU (user and system, the least
 of the runs) and allocations for each call. Storms without layers are told by the clock, the middle one of the runs. Chains of three lengths show whether time and memory grow as the length does.
@@ -26,7 +26,7 @@ sys.path.insert(0, os.path.join(os.path.dirname(HERE), "tests"))
 
 import figures  # noqa: E402
 
-PROGRAM = os.path.join(os.path.dirname(HERE), "crates", "workloads", "out", "workloads")
+PROGRAM = os.path.join(os.path.dirname(HERE), "crates", "call_loops", "out", "call_loops")
 PEER = os.path.join(HERE, "peer", "target", "release", "peer")
 COUNTS = 9  # the descriptor to which count_memory.c writes
 CALLS_A_ROUND = 5

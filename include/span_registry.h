@@ -108,7 +108,7 @@ typedef struct SpanNote {
 
 /* The version of this interface that the program was built for, and the one that the library has. They rise where a
  * program that was built for an earlier one would go wrong, so they are compared before any other call. */
-#define SPAN_ABI_VERSION 2
+#define SPAN_ABI_VERSION 3
 uint32_t span_abi_version(void);
 
 /* The sizes in the library, to be compared with those in the program. Always SPAN_OK. */
@@ -266,8 +266,9 @@ uint32_t span_drain_line(SpanDrain *drain, uint32_t *layer, uint8_t *into, size_
 
 /* The next line as of span_drain_line, but its note is told in its place. texts: the path (the names of the span and of
  * what is above it that the layer admits, root first, with ':' between them; '-' for none), an event's message, then
- * each key and its value. fields, texts and their rooms: as of span_registry_details. A note that isn't told stays the
- * next one: SPAN_SHORT_BUFFER, and SPAN_COUNT_FULL as there.
+ * each key and its value. fields, texts and their rooms: as of span_registry_details. A note whose texts aren't told
+ * stays the next one: SPAN_COUNT_FULL as there, and SPAN_SHORT_BUFFER, where `note` is told all the same. Since no path
+ * is empty, a call with no room for texts tells of which layer the next note is; then that or its line may be taken.
  * Each accepted call is one batch, in their order: its number is `calls` of span_registry_counts before the call. By it
  * a program finds what it keeps of a call beside the registry, as a time or the types of its values. A span's level and
  * target are told by span_registry_details as long as it is open. */
@@ -280,7 +281,7 @@ uint32_t span_drain_note(SpanDrain *drain, SpanNote *note, SpanField *fields, si
 uint32_t span_drain_skip_batch(SpanDrain *drain, size_t *skipped);
 
 /* How many batches were taken, and how many notes were missed for want of memory. */
-uint32_t span_drain_counts(SpanDrain *drain, uint64_t *batches, uint64_t *refused);
+uint32_t span_drain_counts(SpanDrain *drain, uint64_t *batches, uint64_t *missed);
 
 /* Gives the memory back, and the handle is empty. The registry may still be used until the ring is full. */
 uint32_t span_drain_free(SpanDrain *drain);

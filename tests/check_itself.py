@@ -23,7 +23,7 @@ from parts import LIBRARIES, PARTS, QUICK, TOP, tell_lack
 sys.path.insert(0, str(TOP / "bench"))
 import gate  # noqa: E402
 
-WAITS = {"tracerun": 2, "hostile_use": 29, "workloads": 42, "span_benchmark": 36}
+WAITS = {"tracerun": 2, "refused_memory": 29, "call_loops": 42, "span_benchmark": 36}
 CRATES = "low: # the lowest\n" + "".join([*(f"{name} may_wait={number}: low\n" for name, number in WAITS.items()),
                                          *(f"{name} staticlib: low\n" for name in LIBRARIES)])
 FAKED = [it for it in PARTS if it.needs != "gate"]
@@ -213,7 +213,8 @@ def others(rows, clone):
 def small_disks(rows, clone):
     # (both are on one disk)
     took = {clone.at: 1 << 30, clone.room: 2 << 30}
-    for free, wanted in ((3 << 30, ""), ((3 << 30) - 1, f"check: {clone.at} has 3071 MiB of disk left, ")):
+    told = f"check: {clone.at} has 3071 MiB left, and a run from nothing takes 3072 or more: make room"
+    for free, wanted in ((3 << 30, ""), ((3 << 30) - 1, told)):
         said = io.StringIO()
         there = patch("shutil.disk_usage", return_value=SimpleNamespace(free=free))
         with there, patch("parts.TOOK", took), redirect_stdout(said):

@@ -46,16 +46,20 @@ class Definition:
 
 
 class Spec:
-    """A file of specs/: its imports, and its definitions in order."""
+    """A file of specs/: its imports, its definitions in order, and the words of other files that it gives again."""
 
     def __init__(self, module, path):
-        self.imports, self.names, self.inner = {}, OrderedDict(), {}
+        self.imports, self.names, self.inner, self.again = {}, OrderedDict(), {}, {}
         comment, current, margin = [], None, ""
         for number, line in enumerate(open(path, encoding="utf-8").read().split("\n"), 1):
             margin = "  " if line.startswith("module ") else margin  # (what has a module's parameters stands further in)
             line = line[len(margin):] if line.startswith(margin) else line
             if line.startswith("use "):
                 read_import(line[4:], self.imports)
+            elif line.startswith("pub use "):
+                read_import(line[8:], self.again)
+                self.imports.update(self.again)
+                comment, current = [], None
             elif line.startswith("-- ----"):
                 comment, current = [], None
             elif line.startswith("--"):
@@ -76,7 +80,7 @@ class Spec:
                     current.lines[-1] += " " + line
             else:
                 m = HEAD.match(line)
-                if not m or line.startswith(("pub mod", "pub use", "mod ")):
+                if not m or line.startswith(("pub mod", "mod ")):
                     comment, current = [], None
                     continue
                 name = m.group(2)
@@ -162,6 +166,8 @@ class Repository:
         if spec is None:  # a constructor, imported from its type
             spec = self.specs.get(".".join(parts[:-1]))
             return spec and spec.names.get(parts[-1])
+        if name in spec.again:
+            return self.find(*spec.again[name])
         return spec.names.get(name) or spec.names.get(spec.inner.get(name))
 
 

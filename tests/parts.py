@@ -30,8 +30,8 @@ COPY = of_this_clone("libraries")
 COUNTS = re.compile(r"(\d+) passed, (\d+) failed\b")
 AS_ONE = "sh -c '{} && echo 1 passed, 0 failed || echo 0 passed, 1 failed'"
 JOBS = processors(4 << 30)  # (how many crates are proved at once)
-# How many bytes of the disk a run from nothing took: in the clone, in the copy, and where parts build.
-TOOK = {TOP: 3 << 30, COPY: 1 << 30, Path(tempfile.gettempdir()): 2 << 30}
+# How many bytes of disk were measured: in the clone (the program's crates alone), in the copy, and where parts build.
+TOOK = {TOP: 7300 << 20, COPY: 4000 << 20, Path(tempfile.gettempdir()): 500 << 20}
 Part = namedtuple("Part", "when name needs command folder", defaults=[""])  # (a row of the table)
 # A part that ended: what it said, what it counted, and its seconds on the clock and of processors.
 Ended = namedtuple("Ended", "name lines passed failed seconds cpu", defaults=[0, 0])
@@ -50,7 +50,7 @@ LIBRARIES = {it: Part("whole", f"the static library {it}", "", AS_ONE.format("rt
 PARTS = [it for it in table() if it.when != "quick"]
 QUICK = [it for it in table() if it.when != "whole"]
 # What parts need of crates.
-BUILT = {it: TOP / f"crates/{it}/out/{it}" for it in ("tracerun", "hostile_use", "workloads", "span_benchmark")}
+BUILT = {it: TOP / f"crates/{it}/out/{it}" for it in ("tracerun", "refused_memory", "call_loops", "span_benchmark")}
 BUILT.update({it: COPY / f"crates/{it}/out/lib{it}.a" for it in LIBRARIES})
 
 
@@ -66,7 +66,7 @@ class Runs:
 
     def __init__(self, room):
         self.files = {"gate": Path(room) / "gate", **BUILT}
-        self.places = {"room": room, "cc": os.environ.get("CC", "cc"), "library": BUILT["span_ffi"].parent, **self.files}
+        self.places = dict(self.files, room=room, cc=os.environ.get("CC", "cc"), library=BUILT["span_ffi"].parent)
         self.made, self.is_over = set(), False
 
     def why_not(self, part):
@@ -108,12 +108,12 @@ def shown(ended):
 
 
 def tell_lack():
-    """Tells of a disk that has less room than a run from nothing took there, if one has."""
+    """Tells of a disk that has less room than a run from nothing takes there at least, if one has."""
     for place in TOOK:
         took = sum(of_it for other, of_it in TOOK.items() if os.stat(other).st_dev == os.stat(place).st_dev)
         if (free := shutil.disk_usage(place).free) < took:
-            return print(f"check: {place} has {free >> 20} MiB of disk left, where a run from nothing took {took >> 20}: "
-                         "make room, or name folders of another disk by TMPDIR and XDG_CACHE_HOME", flush=True)
+            return print(f"check: {place} has {free >> 20} MiB left, and a run from nothing takes {took >> 20} or "
+                         "more: make room, or name folders of other disks by TMPDIR and XDG_CACHE_HOME", flush=True)
 
 
 def all_parts(runs, is_anew):

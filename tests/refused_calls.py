@@ -1,11 +1,11 @@
 #!/usr/bin/env python3
-"""Runs the rows of `hostile_use` that run by their names alone, with each of their growths refused in turn.
+"""Runs the rows of `refused_memory` that run by their names alone, with each of their growths refused in turn.
 
 They are judged as `refused_memory.py` judges the others. Of a row whose calls remember what later ones may use, as many
 growths as they make for that have to cost neither a call nor a line where they alone are refused. The last line is
 'N passed, M failed'.
 
-usage: refused_calls.py [--hostile-use FILE]
+usage: refused_calls.py [--refused-memory FILE]
 """
 import argparse
 import os
@@ -13,7 +13,7 @@ import subprocess
 import sys
 import tempfile
 
-from refused_memory import HERE, HOSTILE_USE, MODES, answers, compiler, in_turn, run, used
+from refused_memory import HERE, REFUSED_MEMORY, MODES, answers, compiler, in_turn, run, used
 
 ROWS = ["over", "texts", "latest_alone", "latest"]
 
@@ -42,8 +42,8 @@ def remembers(program, shim, row, wanted):
 
 def main():
     parser = argparse.ArgumentParser(description=__doc__, formatter_class=argparse.RawDescriptionHelpFormatter)
-    parser.add_argument("--hostile-use", default=HOSTILE_USE)
-    program = parser.parse_args().hostile_use
+    parser.add_argument("--refused-memory", default=REFUSED_MEMORY)
+    program = parser.parse_args().refused_memory
     passed = failed = 0
     with tempfile.TemporaryDirectory() as folder:
         shim = os.path.join(folder, "refuse_memory.so")

@@ -3,7 +3,7 @@
 
 A growth is an allocation, or a thread that is made. `tracerun replay` and `tracerun why` have to end with the status 3
 and `out of memory` on standard error, after a front of the text that the script means, or as a run that nothing was
-refused (where they can do without the memory). `hostile_use` runs its rows one by one. It makes a call that was refused
+refused (where they can do without the memory). `refused_memory` runs its rows one by one. It makes a call that was refused
 again, and has to end as a run that nothing was refused; its lines that begin with `+` may be missing some, since notes
 that are refused memory are counted in their place. A call that takes no memory is made with each growth refused. The
 last line is 'N passed, M failed'.
@@ -16,7 +16,7 @@ The threads make their growths in another order in each run, so each run has to 
 them, the third with a note that was missed, has to be met before a run that nothing was refused. Where all growths
 after the first were refused too, the third end shows that the numbers themselves are written without memory.
 
-usage: refused_memory.py [--program FILE] [--hostile-use FILE]
+usage: refused_memory.py [--program FILE] [--refused-memory FILE]
 """
 import argparse
 import os
@@ -28,7 +28,7 @@ import tempfile
 HERE = os.path.dirname(os.path.abspath(__file__))
 CRATES = os.path.join(os.path.dirname(HERE), "crates")
 PROGRAM = os.path.join(CRATES, "tracerun", "out", "tracerun")
-HOSTILE_USE = os.path.join(CRATES, "hostile_use", "out", "hostile_use")
+REFUSED_MEMORY = os.path.join(CRATES, "refused_memory", "out", "refused_memory")
 NOTICE = 9
 
 SCRIPTS = {
@@ -187,7 +187,7 @@ def answers(text):
 
 
 def used(program, shim, row, mode):
-    """Judges a row of `hostile_use`, by what it writes where nobody refuses anything."""
+    """Judges a row of `refused_memory`, by what it writes where nobody refuses anything."""
     told, lines = answers(subprocess.run([program, row], capture_output=True, timeout=60, check=True).stdout)
 
     def judge(number):
@@ -211,7 +211,7 @@ def rows_of(program):
 def main():
     parser = argparse.ArgumentParser(description=__doc__, formatter_class=argparse.RawDescriptionHelpFormatter)
     parser.add_argument("--program", default=PROGRAM)
-    parser.add_argument("--hostile-use", default=HOSTILE_USE)
+    parser.add_argument("--refused-memory", default=REFUSED_MEMORY)
     words = parser.parse_args()
     passed = failed = 0
     with tempfile.TemporaryDirectory() as folder:
@@ -221,8 +221,8 @@ def main():
         judges = [(f"{order}: {name}", mode, given([words.program, order], shim, script, mode))
                   for order in ORDERS for name, script in SCRIPTS.items() for mode in MODES]
         judges += [("storm", mode, stormed(words.program, shim, mode)) for mode in MODES]
-        judges += [(f"row {row}", mode, used(words.hostile_use, shim, row, mode))
-                   for row in rows_of(words.hostile_use) for mode in MODES]
+        judges += [(f"row {row}", mode, used(words.refused_memory, shim, row, mode))
+                   for row in rows_of(words.refused_memory) for mode in MODES]
         for name, mode, judge in judges:
             good, bad = in_turn(name, mode, judge)
             passed, failed = passed + good, failed + bad

@@ -65,8 +65,8 @@ PROGRAMS = {
     "span_benchmark scripts|far|calls|storms|quiet SEED": Run(
         "for it in scripts far calls storms quiet; do crates/span_benchmark/out/span_benchmark $it 3 || exit; done",
         "quiet: "),
-    "workloads call-costs": Run("crates/workloads/out/workloads call-costs core 1 0 1 100"),
-    "workloads soak WORKERS PLACES ROUNDS SEED": Run("crates/workloads/out/workloads soak 2 4 1000 1", "missed 0\n"),
+    "call_loops call-costs": Run("crates/call_loops/out/call_loops call-costs core 1 0 1 100"),
+    "call_loops soak WORKERS PLACES ROUNDS SEED": Run("crates/call_loops/out/call_loops soak 2 4 1000 1", "missed 0\n"),
     "git clone . /tmp/old && git -C /tmp/old checkout ce2d9ee": Run(
         f"git clone -q {TOP} $ROOM/old && git -C $ROOM/old checkout -q {START}", needs=START),
     "cp -r bench /tmp/old/ && git -C /tmp/old checkout f8efeba1~ crates/span_benchmark": Run(
@@ -140,7 +140,7 @@ BESIDE = {
     "(cd crates/span_store_ffi && rt lib)": STORE_FFI,
     "(cd crates/span_ffi && rt lib) && (cd crates/span_store_ffi && rt lib)": FFI,
     "cd crates/two_workers && rt run": GATE, "rt ci": GATE, "rt lib": FFI, "rt try": UNPROVED,
-    "(cd crates/span_benchmark && rt run) && (cd crates/workloads && rt run) && ./tracerun --prove": GATE,
+    "(cd crates/span_benchmark && rt run) && (cd crates/call_loops && rt run) && ./tracerun --prove": GATE,
     "(cd crates/span_benchmark && rt run)": GATE,
     "./rust/test": PACKAGE,
     "rust/tracing-subscriber/lay ../tracing-subscriber": TRACING,

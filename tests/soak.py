@@ -2,8 +2,8 @@
 """A long run: storms one after the other, and then random calls by 8 threads on one registry, beside a slow reader
 behind a ring of 4 places, where a call that is refused for want of a place is made again. No part of ./check.
 
-usage: soak.py [--minutes M] [--storms N] [--program FILE] [--workloads FILE] [--seed S] [--figures]
-FILE is tracerun for the storms, and the program of the crate `workloads` for the calls. How many calls make a run of so many
+usage: soak.py [--minutes M] [--storms N] [--program FILE] [--call-loops FILE] [--seed S] [--figures]
+FILE is tracerun for the storms, and the program of the crate `call_loops` for the calls. How many calls make a run of so many
 minutes is found by a short run first. The numbers at the end have to agree, and the most bytes that the program had taken
 and not given back may be MARGIN more in the whole run than in its first minute (its first half, where it has less than
 two minutes): `count_memory.c`, loaded before the C library, counts them. The resident size of each minute is shown and
@@ -26,7 +26,7 @@ from refused_memory import compiler
 from run_cases import PROGRAM, TOP
 from storms import ends_well, start
 
-WORKLOADS = os.path.join(TOP, "crates", "workloads", "out", "workloads")
+CALL_LOOPS = os.path.join(TOP, "crates", "call_loops", "out", "call_loops")
 WORKERS, PLACES = 8, 4
 SHORT_ROUNDS = 200000
 MARGIN = 65536
@@ -163,16 +163,16 @@ def main():
     parser.add_argument("--minutes", type=float, default=1)
     parser.add_argument("--storms", type=int, default=20)
     parser.add_argument("--program", default=PROGRAM)
-    parser.add_argument("--workloads", default=WORKLOADS)
+    parser.add_argument("--call-loops", default=CALL_LOOPS)
     parser.add_argument("--seed", type=int, default=1)
     parser.add_argument("--figures", action="store_true")
     given = parser.parse_args()
-    if not os.access(given.workloads, os.X_OK) or (given.storms and not is_built(given.program)):
-        print("the programs are not built: cd crates/workloads && rt run")
+    if not os.access(given.call_loops, os.X_OK) or (given.storms and not is_built(given.program)):
+        print("the programs are not built: cd crates/call_loops && rt run")
         print("0 passed, 1 failed")
         return 1
     ended = [ends_well(start(given.program), f"storm {number}") for number in range(given.storms)]
-    ended += soaked(given.workloads, given.minutes, given.seed, given.figures)
+    ended += soaked(given.call_loops, given.minutes, given.seed, given.figures)
     print(f"{sum(ended)} passed, {len(ended) - sum(ended)} failed")
     return 0 if all(ended) else 1
 

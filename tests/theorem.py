@@ -33,7 +33,7 @@ BESIDE = [
     ("What was announced is one legal history of the calls.",
      ["span_registry::laws::promises::whenever_the_lock_is_free:legal"]),
     ("Each call proves that it happened: what its worker has then seen of that history ends with this call.",
-     ["span_registry::Registry::try_close:seen,happened"]),
+     ["span_registry::Registry::try_close:seen,happened,released"]),
     ("A handle proves that its span is open.",
      ["span_registry::laws::promises::a_handles_span_is_open:open,held,slot"]),
     ("A span closes with the last of the holders that are listed, and not before.",

@@ -3,7 +3,6 @@
 use crate::directives::Targets;
 use crate::drain::Drain;
 use crate::error::{Error, Limit};
-use crate::head::Reading;
 use crate::interest::Interest;
 use crate::level::{FmtSpan, Form, Level};
 use crate::lost::Losses;
@@ -296,15 +295,14 @@ struct PackedLayers {
 
 impl PackedLayers {
     fn of(layers: &[Layer]) -> Result<PackedLayers, Error> {
-        let reading = Reading::of(layers.iter().map(|layer| layer.form));
         let mut packed = PackedLayers::default();
         for layer in layers {
-            packed.push(layer, reading)?;
+            packed.push(layer)?;
         }
         Ok(packed)
     }
 
-    fn push(&mut self, layer: &Layer, reading: Reading) -> Result<(), Error> {
+    fn push(&mut self, layer: &Layer) -> Result<(), Error> {
         let before = self.rules.len();
         for (prefix, level) in layer.targets.pairs() {
             reserve(&mut self.texts, prefix.len())?;
@@ -318,7 +316,7 @@ impl PackedLayers {
         let rules = u32::try_from(self.rules.len() - before).map_err(|_| Error::BadData)?;
         reserve(&mut self.layers, 1)?;
         self.layers.push(SpanLayer {
-            form: form_number(layer.form, reading),
+            form: form_number(layer.form),
             kinds: layer.kinds.bits(),
             rules,
         });
@@ -327,14 +325,11 @@ impl PackedLayers {
 }
 
 // The form in which the proved registry writes the lines of a layer in this form.
-fn form_number(form: Form, reading: Reading) -> u32 {
-    match (form, reading) {
-        (Form::Compact, _) => COMPACT,
-        (Form::Json, _) => JSON,
-        // Nobody sees them, and these take the least.
-        (Form::Tree, Reading::Notes) => COMPACT,
-        // From these notes can be read.
-        (Form::Tree, _) => JSON,
+fn form_number(form: Form) -> u32 {
+    match form {
+        // Nobody sees the lines in the form of trees, and these take the least.
+        Form::Compact | Form::Tree => COMPACT,
+        Form::Json => JSON,
     }
 }
 

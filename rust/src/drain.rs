@@ -206,7 +206,7 @@ impl Drain {
     fn look_at(&mut self, at: usize) -> bool {
         let part = self.parts.part(at as u32);
         let head = &mut self.heads[at];
-        if !head.look(part) {
+        if !head.look(part, &self.forms) {
             return false;
         }
         if at > 0 || part.ring().notes().is_some() {
@@ -244,7 +244,9 @@ fn told(part: &Part, forms: &[Form], head: &mut Head) {
     if let Some(notes) = part.ring().notes() {
         let mut book = book_at(part, notes, head.batch);
         book.keep_first();
-        head.complete(&book, part.common().interest(), forms);
+        if head.is_note {
+            head.told.complete(&book, part.common().interest());
+        }
     }
     if part.place() > 0 && !head.is_note {
         let form = head.ready.map(|(layer, _)| forms[layer]);

@@ -1,11 +1,7 @@
 //! The next line of a part, where its drain has read it.
 #![forbid(unsafe_code)]
-use crate::interest::Interest;
-use crate::json::parts;
 use crate::level::Form;
 use crate::meta::RawId;
-use crate::note::NoteKind;
-use crate::notes::Book;
 use crate::part::Part;
 use crate::raw::{Lines, Next};
 use crate::said::text_of;
@@ -23,8 +19,7 @@ pub(crate) enum Reading {
     Texts,
     /// As notes: each layer has that form.
     Notes,
-    /// As texts, from which the notes of those layers that have that form are read again: which layer the next line is
-    /// of, the library tells only with it.
+    /// As notes those of the layers that have that form, and as texts the others.
     Both,
 }
 
@@ -77,9 +72,9 @@ impl Head {
         }
     }
 
-    /// Reads the next line of the part. Whether there is one.
+    /// Reads the next line of the part, whose layers have these forms. Whether there is one.
     #[inline(always)]
-    pub(crate) fn look(&mut self, part: &Part) -> bool {
+    pub(crate) fn look(&mut self, part: &Part, forms: &[Form]) -> bool {
         let stamps = part.ring().stamps();
         let mut owes = true;
         if let Some(stamps) = stamps {
@@ -91,7 +86,7 @@ impl Head {
         loop {
             let next = {
                 let mut lines = part.ring().lines();
-                let next = self.next(&mut lines, is_numbered);
+                let next = self.next(&mut lines, is_numbered, forms);
                 if let Some(stamps) = stamps {
                     // While no other thread takes a batch out.
                     self.stamp = stamps.of(self.batch);
@@ -115,16 +110,37 @@ impl Head {
     }
 
     #[inline(always)]
-    fn next(&mut self, lines: &mut Lines, is_numbered: bool) -> Next {
-        if self.reading == Reading::Notes {
+    fn next(&mut self, lines: &mut Lines, is_numbered: bool, forms: &[Form]) -> Next {
+        match self.reading {
+            Reading::Texts => {
+                let next = self.next_text(lines);
+                if is_numbered {
+                    self.batch = lines.counts().0;
+                }
+                next
+            }
+            Reading::Notes => self.next_note(lines),
+            Reading::Both => self.next_of_both(lines, forms),
+        }
+    }
+
+    #[inline(always)]
+    fn next_text(&mut self, lines: &mut Lines) -> Next {
+        let room = self.buffer.len() - 1;
+        lines.next(&mut self.buffer[..room])
+    }
+
+    #[inline(never)]
+    fn next_of_both(&mut self, lines: &mut Lines, forms: &[Form]) -> Next {
+        let Some(note) = lines.peek_note() else {
+            return Next::None;
+        };
+        if forms[note.layer as usize] == Form::Tree {
             return self.next_note(lines);
         }
-        let room = self.buffer.len() - 1;
-        let next = lines.next(&mut self.buffer[..room]);
-        if is_numbered {
-            self.batch = lines.counts().0;
-        }
-        next
+        self.is_note = false;
+        self.batch = note.batch + 1;
+        self.next_text(lines)
     }
 
     #[inline(never)]
@@ -140,24 +156,6 @@ impl Head {
             layer: note.layer,
             length: 0,
         }
-    }
-
-    /// Puts what is kept of the line's call to what it tells, where its layer has the form of trees.
-    pub(crate) fn complete(&mut self, book: &Book, interest: &Interest, forms: &[Form]) {
-        if self.reading == Reading::Both {
-            self.is_note = self.read_again(forms).is_some();
-        }
-        if self.is_note {
-            self.told.complete(book, interest);
-        }
-    }
-
-    // Reads the note from the line in the buffer. None where it is of another layer.
-    fn read_again(&mut self, forms: &[Form]) -> Option<()> {
-        let (layer, length) = self.ready.filter(|&(layer, _)| forms[layer] == Form::Tree)?;
-        let line = parts(std::str::from_utf8(&self.buffer[..length]).ok()?)?;
-        self.told.said.put(layer, NoteKind::of_name(line.kind)?, &line);
-        Some(())
     }
 
     /// The line, of so many bytes, that is ready.

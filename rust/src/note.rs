@@ -37,14 +37,6 @@ impl NoteKind {
         NoteKind::ALL.get(number as usize).copied().unwrap_or(NoteKind::Close)
     }
 
-    /// That of a name, and its number.
-    pub(crate) fn of_name(name: &str) -> Option<u32> {
-        (0..)
-            .zip(NoteKind::ALL)
-            .find(|(_, kind)| kind.name() == name)
-            .map(|(number, _)| number)
-    }
-
     /// Its name in lines.
     #[must_use]
     pub fn name(self) -> &'static str {

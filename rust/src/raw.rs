@@ -135,7 +135,7 @@ struct SpanSizes {
     counts: u32,
 }
 
-const ABI_VERSION: u32 = 2;
+const ABI_VERSION: u32 = 3;
 
 pub(crate) const OK: u32 = 0;
 pub(crate) const UNKNOWN: u32 = 1;
@@ -337,7 +337,7 @@ unsafe extern "C" {
         texts_len: *mut usize,
     ) -> u32;
     fn span_drain_skip_batch(drain: *mut SpanDrain, skipped: *mut usize) -> u32;
-    fn span_drain_counts(drain: *mut SpanDrain, batches: *mut u64, refused: *mut u64) -> u32;
+    fn span_drain_counts(drain: *mut SpanDrain, batches: *mut u64, missed: *mut u64) -> u32;
     fn span_drain_free(drain: *mut SpanDrain) -> u32;
 
     fn span_status_text(status: u32, into: *mut u8, into_len: usize, len: *mut usize) -> u32;

@@ -1,7 +1,5 @@
 //! A note as the proved registry tells it: numbers, and texts one after another.
 #![forbid(unsafe_code)]
-use crate::json::{unescape, Parts};
-use crate::level::Level;
 use crate::raw::{Lines, NextNote, SpanField, SpanNote};
 
 /// Room for the fields and the bytes of most notes.
@@ -30,7 +28,7 @@ impl Said {
                     (self.note, self.count, self.bytes) = (note, fields, bytes);
                     return true;
                 }
-                NextNote::Long { fields, bytes } => self.grow(fields, bytes),
+                NextNote::Long { fields, bytes, .. } => self.grow(fields, bytes),
                 NextNote::None => return false,
             }
         }
@@ -41,30 +39,6 @@ impl Said {
         let fields = self.fields.len().max(fields).max(FIELDS);
         self.fields.resize(fields, SpanField::default());
         self.texts.resize(self.texts.len().max(bytes).max(BYTES), 0);
-    }
-
-    /// The note of this kind that a line tells, in place of the last one.
-    pub(crate) fn put(&mut self, layer: usize, kind: u32, line: &Parts<'_>) {
-        self.texts.clear();
-        self.fields.clear();
-        let texts = &mut self.texts;
-        // A line isn't longer than the library takes texts.
-        let mut put = |text: &str| unescape(text, texts) as u32;
-        self.note = SpanNote {
-            id: line.id,
-            layer: layer as u32,
-            kind,
-            worker: line.worker,
-            level: line.level.map_or(0, Level::verbosity),
-            path_len: put(line.path),
-            message_len: put(line.message.unwrap_or_default()),
-            ..SpanNote::default()
-        };
-        self.fields.extend(line.fields.iter().map(|(key, value)| SpanField {
-            key_len: put(key),
-            value_len: put(value),
-        }));
-        (self.count, self.bytes) = (self.fields.len(), self.texts.len());
     }
 
     /// Its numbers.

@@ -59,6 +59,13 @@ static void check_note(const SpanNote *wanted, const SpanField *said, size_t cou
     CHECK(fields[count].key_len == 0x07070707 && texts[len] == 7);
 }
 
+/* whether a call with this room tells the numbers of the note that is next, and how long it is, and writes no text */
+static void check_short(const SpanNote *wanted, size_t count, size_t len, size_t room, size_t texts_room) {
+    clear();
+    CHECK(tell(room, texts_room) == SPAN_SHORT_BUFFER && fields_len == count && texts_len == len);
+    CHECK(memcmp(&note, wanted, sizeof note) == 0 && fields[0].key_len == 0x07070707 && texts[0] == 7);
+}
+
 static void check_next(SpanNote wanted, const SpanField *said, size_t count, const char *all) {
     clear();
     CHECK(tell(3, 39) == SPAN_OK);
@@ -130,23 +137,50 @@ static void test_notes_and_lines(void) {
     close_both();
 }
 
+/* without room a program learns of which layer the next note is, and takes it or its line */
+static void test_a_layer_before_its_note(void) {
+    const SpanField said[1] = {{1, 1}};
+    const SpanMeta info = {2, 1, 1};
+    uint64_t id;
+    open_both(64);
+    id = make_span(0, 2, "a", said, 1, "kv");
+    CHECK(span_registry_record(&registry, 1, id, said, 1, (const uint8_t *)"qw", 2) == SPAN_OK);
+    CHECK(span_registry_event_in(&registry, 0, SPAN_ROOT, 0, &info, 2, no_fields, 0, (const uint8_t *)"nthi", 4)
+        == SPAN_OK);
+    check_short(&(SpanNote){0, id, 0, 0, 0, 0, 1, 0}, 1, 3, 0, 0);
+    check_line(0, "new 1 w0 a k=v");
+    check_short(&(SpanNote){1, id, 0, 1, 1, 0, 1, 0}, 1, 3, 3, 0);
+    check_line(0, "record 1 w1 a q=w");
+    check_short(&(SpanNote){1, id, 1, 1, 1, 0, 1, 0}, 1, 3, 0, 39);
+    check_next((SpanNote){1, id, 1, 1, 1, 0, 1, 0}, said, 1, "aqw");
+    check_short(&(SpanNote){2, 0, 0, 2, 0, 2, 1, 2}, 0, 3, 0, 0);
+    check_line(0, "event 0 w0 - INFO hi");
+    check_short(&(SpanNote){2, 0, 1, 2, 0, 2, 1, 2}, 0, 3, 3, 2);
+    check_next((SpanNote){2, 0, 1, 2, 0, 2, 1, 2}, no_fields, 0, "-hi");
+    clear();
+    CHECK(tell(0, 0) == SPAN_NO_LINE);
+    check_unwritten();
+    close_both();
+}
+
 static void test_short_buffers(void) {
     const SpanField said[2] = {{1, 2}, {2, 0}};
-    uint64_t id;
+    SpanNote wanted = {0, 0, 0, 0, 0, 0, 3, 0};
     clear();
     CHECK(tell(2, 8) == SPAN_EMPTY_HANDLE && fields_len == 98 && texts_len == 99);
     open_both(64);
     CHECK(tell(2, 8) == SPAN_NO_LINE && fields_len == 98 && texts_len == 99);
-    id = make_span(0, 2, "abc", said, 2, "kvvqq");
-    CHECK(tell(1, 8) == SPAN_SHORT_BUFFER && fields_len == 2 && texts_len == 8);
-    CHECK(tell(2, 7) == SPAN_SHORT_BUFFER && fields_len == 2 && texts_len == 8);
-    CHECK(tell(0, 0) == SPAN_SHORT_BUFFER && fields_len == 2 && texts_len == 8);
     check_unwritten();
+    wanted.id = make_span(0, 2, "abc", said, 2, "kvvqq");
+    check_short(&wanted, 2, 8, 1, 8);
+    check_short(&wanted, 2, 8, 2, 7);
+    check_short(&wanted, 2, 8, 0, 0);
+    clear();
     /* it waits, so it takes no memory */
     allocations_left = 0;
     CHECK(tell(2, 8) == SPAN_OK);
     allocations_left = -1;
-    check_note(&(SpanNote){0, id, 0, 0, 0, 0, 3, 0}, said, 2, "abckvvqq");
+    check_note(&wanted, said, 2, "abckvvqq");
     close_both();
 }
 
@@ -167,6 +201,7 @@ static void test_missed(void) {
 int main(void) {
     test_each_kind();
     test_notes_and_lines();
+    test_a_layer_before_its_note();
     test_short_buffers();
     test_missed();
     printf("%d passed, %d failed\n", passed, failed);

@@ -94,7 +94,7 @@ static void test_life_of_a_span(void) {
 static void test_lines(void) {
     const SpanMeta meta = {1, 1, 3};
     const SpanField field = {1, 3};
-    uint64_t root = 0, child = 0, batches = 0, refused = 9;
+    uint64_t root = 0, child = 0, batches = 0, missed = 9;
     uint32_t answer = 0;
     CHECK(open_usual(usual_limits) == SPAN_OK);
     check_no_line(__LINE__);
@@ -117,7 +117,7 @@ static void test_lines(void) {
     CHECK_LINE(1, "{\"fields\":[[\"k\",\"v\"],[\"k\",\"a=b\"]],\"id\":2,\"kind\":\"close\",\"path\":\"a:a\","
         "\"worker\":1}");
     check_no_line(__LINE__);
-    CHECK(span_drain_counts(&drain, &batches, &refused) == SPAN_OK && batches == 6 && refused == 0);
+    CHECK(span_drain_counts(&drain, &batches, &missed) == SPAN_OK && batches == 6 && missed == 0);
     CHECK(span_drain_free(&drain) == SPAN_OK);
 }
 
@@ -407,7 +407,7 @@ static uint32_t short_life(void) {
 static void test_refused_memory(void) {
     uint8_t into[512];
     uint32_t layer, status;
-    uint64_t batches, refused = 0;
+    uint64_t batches, missed = 0;
     size_t len;
     long allowed = 0;
     do {
@@ -420,12 +420,12 @@ static void test_refused_memory(void) {
             ;
         allocations_left = -1;
         if (drain.at != NULL)
-            CHECK(span_drain_counts(&drain, &batches, &refused) == SPAN_OK);
+            CHECK(span_drain_counts(&drain, &batches, &missed) == SPAN_OK);
         span_registry_free(&registry);
         span_drain_free(&drain);
     } while (status != SPAN_OK && allowed < 10000);
     CHECK(status == SPAN_OK && allowed > 20);
-    CHECK(refused > 0);
+    CHECK(missed > 0);
 }
 
 /* ---- a thread that reads beside one that calls */

@@ -277,9 +277,9 @@ static void check_skipped(uint32_t status, size_t wanted) {
     CHECK(span_drain_skip_batch(&drain, &skipped) == status && skipped == wanted);
 }
 
-static void check_counts(uint64_t batches, uint64_t refused) {
+static void check_counts(uint64_t batches, uint64_t missed_so_far) {
     uint64_t taken = 99, missed = 99;
-    CHECK(span_drain_counts(&drain, &taken, &missed) == SPAN_OK && taken == batches && missed == refused);
+    CHECK(span_drain_counts(&drain, &taken, &missed) == SPAN_OK && taken == batches && missed == missed_so_far);
 }
 
 static void test_skip_batch(void) {

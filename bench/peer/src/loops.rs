@@ -1,4 +1,4 @@
-//! Loops of calls in one thread, as `workloads call-costs` makes them: on the registry alone, or on one behind a `Mutex`.
+//! Loops of calls in one thread, as `call_loops call-costs` makes them: on the registry alone, or on one behind a `Mutex`.
 use crate::field::{Field, Fields};
 use crate::layer::{Form, Level, Rule, EVERY_KIND};
 use crate::outlet::{Batch, Lines};

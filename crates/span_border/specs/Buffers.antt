@@ -11,8 +11,8 @@ WritesAll things old Done new len =
 WritesAll things old ShortBuffer new len = (length old < length things) × (new ≡ old) × (len ≡ length things)
 WritesAll things old _ new len = ⊥
 
--- a length is as it was, unless one was told
-abbrev pub KeepsLength : Option Status → ℕ → ℕ → Type 0
-KeepsLength (Some Done) old new = Unit {0}
-KeepsLength (Some ShortBuffer) old new = Unit {0}
-KeepsLength _ old new = new ≡ old
+-- numbers that are told also where a buffer is too short, as a length is: they are as they were, unless they were told
+abbrev pub KeepsNumbers : {X : Type 0} → Option Status → X → X → Type 0
+KeepsNumbers (Some Done) old new = Unit {0}
+KeepsNumbers (Some ShortBuffer) old new = Unit {0}
+KeepsNumbers _ old new = new ≡ old

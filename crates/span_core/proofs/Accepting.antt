@@ -16,7 +16,8 @@ use Rattle.span_stack.specs.Stack.{has, without_last}
 use Rattle.span_core.specs.World.{IsWorld}
 use Rattle.span_outlet.specs.Request.{enter, entered, exit, exited, clone_span, cloned, record_fields, recorded, try_close, released}
 use Rattle.span_core.specs.Happening.{notes_of_all, close_of, at_span}
-use Rattle.span_core.specs.Step.{IsStep}
+use Rattle.span_core.specs.Step.{IsStep, is_open}
+use Rattle.span_core.proofs.Deciding.{handle_from}
 use Rattle.span_core.proofs.Worlds.{world_left, world_left_still, inside-set}
 
 pub step_clone : (rules : List Filter) (ids : List ℕ) (spans new_spans : Spans) (stacks : List (List ℕ)) (worker id : ℕ) (notes : List PlainNote)
@@ -27,7 +28,15 @@ pub step_clone : (rules : List Filter) (ids : List ℕ) (spans new_spans : Spans
     → IsStep rules ids (record { spans = spans; stacks = stacks }) (clone_span worker id) cloned notes (record { spans = new_spans; stacks = stacks })
 step_clone rules ids spans new_spans stacks worker id notes within held spans_are none = record {
   within = within;
-  changes = record { held = held; after = λ j. record { spans = spans_are j; stacks = stacks } };
+  changes = record {
+    wanted = refl;
+    known = handle_from spans id held;
+    inside = refl;
+    id = 0;
+    answer_is = refl;
+    id_is_new = tt;
+    after = λ j. record { spans = spans_are j; stacks = stacks };
+  };
   notes_are = none;
 }
 
@@ -39,7 +48,15 @@ pub step_record : (rules : List Filter) (ids : List ℕ) (spans new_spans : Span
     → IsStep rules ids (record { spans = spans; stacks = stacks }) (record_fields worker id fields) recorded notes (record { spans = new_spans; stacks = stacks })
 step_record rules ids spans new_spans stacks worker id fields notes within held spans_are notes_are = record {
   within = within;
-  changes = record { held = held; after = λ j. record { spans = spans_are j; stacks = stacks } };
+  changes = record {
+    wanted = refl;
+    known = handle_from spans id held;
+    inside = refl;
+    id = 0;
+    answer_is = refl;
+    id_is_new = tt;
+    after = λ j. record { spans = spans_are j; stacks = stacks };
+  };
   notes_are = notes_are;
 }
 
@@ -52,7 +69,15 @@ pub step_close : (rules : List Filter) (ids : List ℕ) (spans new_spans : Spans
     → IsStep rules ids (record { spans = spans; stacks = stacks }) (try_close worker id) (released closed) notes (record { spans = new_spans; stacks = stacks })
 step_close rules ids spans new_spans stacks worker id closed notes within held closed_are spans_are notes_are = record {
   within = within;
-  changes = record { held = held; closed_are = closed_are; after = λ j. record { spans = spans_are j; stacks = stacks } };
+  changes = record {
+    wanted = refl;
+    known = handle_from spans id held;
+    inside = refl;
+    id = 0;
+    answer_is = ap released closed_are;
+    id_is_new = tt;
+    after = λ j. record { spans = spans_are j; stacks = stacks };
+  };
   notes_are = notes_are;
 }
 
@@ -66,12 +91,21 @@ pub step_enter : (rules : List Filter) (ids : List ℕ) (spans new_spans : Spans
     → IsStep rules ids (record { spans = spans; stacks = stacks }) (enter worker id) (entered first) notes (record { spans = new_spans; stacks = new_stacks })
 step_enter rules ids spans new_spans stacks new_stacks worker id first notes within held first_is spans_are stacks_are notes_are = record {
   within = within;
-  changes = record { held = held; first_is = first_is; after = λ j. record { spans = spans_are j; stacks = stacks_are j } };
+  changes = record {
+    wanted = refl;
+    known = handle_from spans id held;
+    inside = refl;
+    id = 0;
+    answer_is = ap entered first_is;
+    id_is_new = tt;
+    after = λ j. record { spans = spans_are j; stacks = stacks_are j };
+  };
   notes_are = notes_are;
 }
 
 pub step_exit : (rules : List Filter) (ids : List ℕ) (spans new_spans : Spans) (stacks new_stacks : List (List ℕ)) (worker id : ℕ) (stays : Bool) (closed : List ℕ) (notes : List PlainNote)
     → worker < length stacks
+    → is_open spans id ≡ true
     → has (get_or stacks worker []) id ≡ true
     → stays ≡ has (without_last (get_or stacks worker []) id) id
     → closed ≡ cond stays [] (closing_list spans id Entry)
@@ -79,11 +113,15 @@ pub step_exit : (rules : List Filter) (ids : List ℕ) (spans new_spans : Spans)
     → new_stacks ≡ set stacks worker (without_last (get_or stacks worker []) id)
     → notes ≡ notes_of_all rules worker (at_span spans OnExit id [] ∷ map (close_of spans) closed)
     → IsStep rules ids (record { spans = spans; stacks = stacks }) (exit worker id) (exited closed) notes (record { spans = new_spans; stacks = new_stacks })
-step_exit rules ids spans new_spans stacks new_stacks worker id stays closed notes within stands stays_is closed_are spans_are stacks_are notes_are = record {
+step_exit rules ids spans new_spans stacks new_stacks worker id stays closed notes within there stands stays_is closed_are spans_are stacks_are notes_are = record {
   within = within;
   changes = record {
+    wanted = refl;
+    known = there;
     inside = stands;
-    closed_are = closed_are ∙ ap (λ b. cond b [] (closing_list spans id Entry)) stays_is;
+    id = 0;
+    answer_is = ap exited (closed_are ∙ ap (λ b. cond b [] (closing_list spans id Entry)) stays_is);
+    id_is_new = tt;
     after = λ j. record { spans = (spans_are ∙ ap (λ b. cond b spans (spans_left spans id Entry)) stays_is) j; stacks = stacks_are j };
   };
   notes_are = notes_are;

@@ -15,6 +15,7 @@ use Rattle.span_outlet.specs.Request.{Request, new_span, clone_span, enter, exit
 use Rattle.span_core.specs.Happening.{Happening, at_span, close_of, event_told, happenings, is_told, note_of, notes_of, notes_of_all}
 use Rattle.span_core.specs.Step.{Changes}
 use Rattle.span_core.specs.ClosedSpans.{closed_by, is_close, tells_close, hears_close}
+use Rattle.span_core.proofs.Steps.{answered}
 
 abbrev pub one : Bool → ℕ
 one b = cond b 1 0
@@ -202,4 +203,4 @@ call_counted rules ids worker layer id old (exit w i) (exited closed) new h = qu
 call_counted rules ids worker layer id old (try_close w i) (released closed) new h = refl
 call_counted rules ids worker layer id old (record_fields w i fields) recorded new h = quiet_first rules worker layer id (at_span old.spans OnRecord i fields) [] refl
 call_counted rules ids worker layer id old (event w meta message fields parent) told new h = quiet_first rules worker layer id (event_told rules old w meta message fields parent) [] refl
-call_counted rules ids worker layer id old _ _ new h = absurd h
+call_counted rules ids worker layer id old _ _ new h = absurd (false≢true (answered h))

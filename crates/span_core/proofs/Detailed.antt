@@ -4,7 +4,7 @@ use Rattle.std.specs.Prelude.{IsSomeAnd}
 use Rattle.std.proofs.lemmas.List.{map-append, length-map, take_all}
 use Rattle.span_forest.specs.Node.{Node}
 use Rattle.span_forest.specs.Spans.{find, AreApart}
-use Rattle.span_forest.specs.Holding.{open_ids}
+use Rattle.span_forest.specs.Holding.{all_ids}
 use Rattle.span_forest.proofs.OpenIds.{Place, place_next}
 use Rattle.span_core.specs.World.{World}
 use Rattle.span_core.specs.declared.details.SpanDetails.{SpanDetails}
@@ -19,8 +19,8 @@ details_more world list one i at apart place told so_far =
     ∙ (ap (λ v. map (details_of world) (take i world.spans) ++ v ∷ []) here
     ∙ sym (ap (map (details_of world)) n.first ∙ map-append (details_of world) (take i world.spans) ((at, n.node) ∷ []))))
 
-pub details_all : (world : World) (i : ℕ) (ids : List ℕ) → ids ≡ open_ids world.spans → length ids ≤ i → map (details_of world) (take i world.spans) ≡ map (details_of world) world.spans
+pub details_all : (world : World) (i : ℕ) (ids : List ℕ) → ids ≡ all_ids world.spans → length ids ≤ i → map (details_of world) (take i world.spans) ≡ map (details_of world) world.spans
 details_all world i ids same past =
-    let len : length (open_ids world.spans) ≡ length world.spans = length-map world.spans (λ (e : ℕ × Node). e.0) in
+    let len : length (all_ids world.spans) ≡ length world.spans = length-map world.spans (λ (e : ℕ × Node). e.0) in
     let all = ap length same in
     ap (map (details_of world)) (take_all i world.spans (omega (arith, len, all, past)))

@@ -9,7 +9,7 @@ use Rattle.span_layers.specs.Filter.{Filter, admission_set}
 use Rattle.span_forest.specs.declared.span.Holder.{Holder}
 use Rattle.span_forest.specs.declared.span.Holder.TheVariants.{Handle, Entry}
 use Rattle.span_forest.specs.Node.{Node, with_fields}
-use Rattle.span_forest.specs.Spans.{Spans, find, IsOpen, with_node, with_change}
+use Rattle.span_forest.specs.Spans.{Spans, find, IsOpen, with_entry, with_change}
 use Rattle.span_forest.specs.Count.{holders}
 use Rattle.span_forest.specs.Live.{stands_in}
 use Rattle.span_forest.specs.Holders.{held_in, with_more}
@@ -20,6 +20,8 @@ use Rattle.span_outlet.specs.Request.{Request, new_span, clone_span, enter, exit
 use Rattle.span_core.specs.Step.{Changes, is_open_parent, stays_inside}
 use Rattle.span_core.specs.History.{id_issued}
 use Rattle.span_core.specs.ClosedSpans.{closed_by, spans_before_closing, gives_back}
+use Rattle.span_core.proofs.Deciding.{held_from}
+use Rattle.span_core.proofs.Steps.{answered, exit_closes, release_closes}
 
 -- a change of a span that takes no holder and leaves its parent, its admission set and what decides that
 pub record IsMild (f : Node → Node) : Type 0 where
@@ -43,7 +45,7 @@ pub record Makes (rules : List Filter) (ids : List ℕ) (old : World) (request :
   pub held : 0 < holders node
   pub bits : node.bits ≡ admission_set rules node.target node.level
   pub other : gives_back request ≡ false
-  pub spans : new.spans ≡ with_node old.spans id node
+  pub spans : new.spans ≡ with_entry old.spans id node
   pub closed : closed_by answer ≡ []
   pub left : spans_before_closing old request ≡ old.spans
   pub issued : id_issued answer ≡ id ∷ []
@@ -101,8 +103,8 @@ effect rules ids old (new_span worker meta fields parent) (made id) new h =
     makes (record {
       id = id;
       node = _;
-      fresh = h.not_issued;
-      parent = parent_open old.spans parent h.parent_open;
+      fresh = h.id_is_new.1;
+      parent = parent_open old.spans parent h.known;
       held = omega arith;
       bits = refl;
       other = refl;
@@ -121,14 +123,14 @@ effect rules ids old (exit worker id) (exited closed) new h =
     elim (cases_Bool (stays_inside old worker id)) [
       | inl t ↦ stays
           (ap (λ (w : World). w.spans) h.after ∙ rw t refl)
-          (record { closed = h.closed_are ∙ rw t refl; left = rw t refl; issued = refl })
+          (record { closed = exit_closes h ∙ rw t refl; left = rw t refl; issued = refl })
       | inr t ↦ frees (record {
         id = id;
         holder = Entry;
         there = λ whole. stands_open old worker id whole h.inside;
         known = inr (worker, h.inside);
         spans = ap (λ (w : World). w.spans) h.after ∙ rw t refl;
-        closed = h.closed_are ∙ rw t refl;
+        closed = exit_closes h ∙ rw t refl;
         left = rw t refl;
         issued = refl;
       })
@@ -137,10 +139,10 @@ effect rules ids old (try_close worker id) (released closed) new h =
     frees (record {
       id = id;
       holder = Handle;
-      there = λ whole. open_held old.spans id Handle h.held;
-      known = inl (open_held old.spans id Handle h.held);
+      there = λ whole. open_held old.spans id Handle (held_from old.spans id h.known);
+      known = inl (open_held old.spans id Handle (held_from old.spans id h.known));
       spans = ap (λ (w : World). w.spans) h.after;
-      closed = h.closed_are;
+      closed = release_closes h;
       left = refl;
       issued = refl;
     })
@@ -148,4 +150,4 @@ effect rules ids old (record_fields worker id fields) recorded new h =
     changes (with_fields fields) id (fields_more fields) refl (ap (λ (w : World). w.spans) h.after) (record { closed = refl; left = refl; issued = refl })
 effect rules ids old (event worker meta message fields parent) told new h =
     stays (ap (λ (w : World). w.spans) h.after) (record { closed = refl; left = refl; issued = refl })
-effect rules ids old _ _ new h = absurd h
+effect rules ids old _ _ new h = absurd (false≢true (answered h))

@@ -64,7 +64,7 @@ nothing_entered = refl
 
 -- each layer is told of an event with its own id and path
 abbrev noted : ℕ → ℕ → List ℕ → PlainNote
-noted layer id path = record { layer = layer; kind = OnEvent; worker = 0; id = id; path = path; fields = (codes "k", codes "v") ∷ []; tail = Some (Info, codes "hi") }
+noted layer id path = record { layer = layer; kind = OnEvent; worker = 0; id = id; path = path; fields = (codes "k", codes "v") ∷ []; event = Some (record { level = Info; message = codes "hi" }) }
 
 abbrev told_in : ParentOf → List PlainNote
 told_in parent =
@@ -119,8 +119,8 @@ abbrev entered_alone : World
 entered_alone = record { spans = (1, span (codes "a") 3 None 0 0) ∷ (2, span (codes "b") 3 (Some 1) 0 1) ∷ []; stacks = (2 ∷ []) ∷ [] }
 
 abbrev note_at : Bool → ℕ → List ℕ → PlainNote
-note_at true id path = record { layer = 0; kind = OnExit; worker = 0; id = id; path = path; fields = []; tail = None }
-note_at false id path = record { layer = 0; kind = OnClose; worker = 0; id = id; path = path; fields = []; tail = None }
+note_at true id path = record { layer = 0; kind = OnExit; worker = 0; id = id; path = path; fields = []; event = None }
+note_at false id path = record { layer = 0; kind = OnClose; worker = 0; id = id; path = path; fields = []; event = None }
 
 exit_before_closes :
     notes_of_all (everything ∷ only_app ∷ []) 0 (happenings (everything ∷ only_app ∷ []) entered_alone (exit 0 2) (exited (closing_list entered_alone.spans 2 Entry)) (empty_world 1))
@@ -228,13 +228,13 @@ legal : IsLegal [] 1 (made_a ∷ batch (try_close 0 1) (released (1 ∷ [])) ∷
 legal =
     more (batch (try_close 0 1) (released (1 ∷ [])))
     (more made_a none
-    (record { within = omega arith; changes = record { in_layout = (omega arith, omega arith); not_issued = refl; wanted = refl; parent_open = refl; after = refl }; notes_are = refl }) refl)
-    (record { within = omega arith; changes = record { held = omega arith; closed_are = refl; after = refl }; notes_are = refl })
+    (record { within = omega arith; changes = record { wanted = refl; known = refl; inside = refl; id = 1; answer_is = refl; id_is_new = ((omega arith, omega arith), refl); after = refl }; notes_are = refl }) refl)
+    (record { within = omega arith; changes = record { wanted = refl; known = refl; inside = refl; id = 0; answer_is = refl; id_is_new = tt; after = refl }; notes_are = refl })
     refl
 
 -- the lines of a history: the number of the batch, the place in it, the layer, and the text
 abbrev told_of_a : PlainNote
-told_of_a = record { layer = 0; kind = OnNew; worker = 0; id = 1; path = codes "a"; fields = []; tail = None }
+told_of_a = record { layer = 0; kind = OnNew; worker = 0; id = 1; path = codes "a"; fields = []; event = None }
 
 line_of_a : lines_of (Compact ∷ []) (record { request = new_span 0 (meta (codes "a") (codes "app")) [] None; answer = made 1; notes = told_of_a ∷ [] } ∷ [])
     ≡ (record { batch = 0; place = 0; layer = 0; text = codes "new 1 w0 a" }) ∷ []
@@ -308,7 +308,7 @@ no_slot = refl
 
 -- where a slot is free, the span is made under the next id, and the layer is told
 new_of_x : PlainNote
-new_of_x = record { layer = 0; kind = OnNew; worker = 0; id = 3; path = codes "a:b:x"; fields = []; tail = None }
+new_of_x = record { layer = 0; kind = OnNew; worker = 0; id = 3; path = codes "a:b:x"; fields = []; event = None }
 
 made_under_b :
     outcome (core_of two_made) (new_span 0 (meta (codes "x") (codes "app")) [] (Some 2))
@@ -327,7 +327,7 @@ bad_name_of_event = refl
 
 -- under a span that is at its greatest count it is told, and the count stays
 note_of_x : PlainNote
-note_of_x = record { layer = 0; kind = OnEvent; worker = 1; id = 1; path = codes "a"; fields = []; tail = Some (Info, codes "hi") }
+note_of_x = record { layer = 0; kind = OnEvent; worker = 1; id = 1; path = codes "a"; fields = []; event = Some (record { level = Info; message = codes "hi" }) }
 
 told_under_a :
     outcome (core_of used_up) (event 1 (meta (codes "x") (codes "app")) (codes "hi") [] (Of 1))

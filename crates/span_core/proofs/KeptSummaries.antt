@@ -10,11 +10,11 @@ use Rattle.span_id.specs.Bits.{has_bit}
 use Rattle.span_forest.specs.declared.span.Holder.{Holder}
 use Rattle.span_forest.specs.declared.span.Holder.TheVariants.{Entry}
 use Rattle.span_forest.specs.Node.{Node}
-use Rattle.span_forest.specs.Spans.{Spans, find, with_node, with_change}
+use Rattle.span_forest.specs.Spans.{Spans, find, with_entry, with_change}
 use Rattle.span_forest.specs.Holders.{held_in, with_more, with_less}
 use Rattle.span_forest.specs.Keep.{with_holder}
 use Rattle.span_forest.specs.Release.{spans_left}
-use Rattle.span_forest.proofs.Adds.{find-with_other}
+use Rattle.span_slots.proofs.Entries.{find-with_other}
 use Rattle.span_forest.proofs.Nodes.{find-changed_same, find-changed_other}
 use Rattle.span_stack.specs.Stack.{has}
 use Rattle.span_stack.proofs.Entries.{has-append}
@@ -111,7 +111,7 @@ summary_exited old new stacks after summary stays id is left before =
     ])
 
 -- a span more, which stood in no stack
-pub summary_new : (old new : Spans) (stacks : List (List ℕ)) (summary : Summary) (id : ℕ) (node : Node) → new ≡ with_node old id node → find old id ≡ None
+pub summary_new : (old new : Spans) (stacks : List (List ℕ)) (summary : Summary) (id : ℕ) (node : Node) → new ≡ with_entry old id node → find old id ≡ None
     → IsWorld (record { spans = old; stacks = stacks }) → IsSummary old stacks summary → IsSummary new stacks summary
 summary_new old new stacks summary id node is gone whole before =
     summary_on old new stacks summary

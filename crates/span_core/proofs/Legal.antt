@@ -12,13 +12,14 @@ use Rattle.span_layers.specs.Filter.{Filter, admission_set}
 use Rattle.span_forest.specs.declared.span.Holder.{Holder}
 use Rattle.span_forest.specs.declared.span.Holder.TheVariants.{Handle, Entry}
 use Rattle.span_forest.specs.Node.{Node}
-use Rattle.span_forest.specs.Spans.{Spans, find, IsOpen, with_node, with_change}
+use Rattle.span_forest.specs.Spans.{Spans, find, IsOpen, with_entry, with_change}
 use Rattle.span_forest.specs.Count.{holders}
 use Rattle.span_forest.specs.Live.{stands_in, is_live}
 use Rattle.span_forest.specs.Holders.{with_less}
 use Rattle.span_forest.specs.Release.{without_holder, closing_list, spans_left}
 use Rattle.span_forest.proofs.Nodes.{find-changed_same, find-changed_other, IsOpen-changed, changed_open}
-use Rattle.span_forest.proofs.Adds.{find-with_same, find-with_other, open_back}
+use Rattle.span_slots.proofs.Entries.{find-with_same, find-with_other}
+use Rattle.span_forest.proofs.Adds.{open_back}
 use Rattle.span_forest.proofs.Spared.{kept_passes, passing_kept, not_some, none_open, gone_exactly, others_stay}
 use Rattle.span_forest.proofs.Upheld.{IsUpheld, upheld_empty, upheld_with, upheld_changed, upheld_released, listed_known}
 use Rattle.span_stack.specs.Stack.{has, without_last}
@@ -29,6 +30,8 @@ use Rattle.span_core.specs.Step.{Changes}
 use Rattle.span_core.specs.History.{issued, id_issued, IsLegal}
 use Rattle.span_core.specs.History.IsLegal.{none, more}
 use Rattle.span_core.specs.ClosedSpans.{closed_by, closed_in}
+use Rattle.span_core.proofs.Deciding.{held_from}
+use Rattle.span_core.proofs.Steps.{answered}
 use Rattle.span_core.proofs.Worlds.{has-push, has-without_last}
 use Rattle.span_core.proofs.Effects.{IsMild, effect, open_held}
 use Rattle.span_core.proofs.Effects.Effect.{stays, changes, makes, frees}
@@ -143,12 +146,12 @@ stands_at (x ∷ xs) zero d h = or_left (x == x) (stands_in x xs) (eq-eqb x x re
 stands_at (x ∷ xs) (suc k) d h = or_right (x == get_or xs k d) (stands_in (get_or xs k d) xs) (stands_at xs k d (omega arith))
 
 settled_made : (rules : List Filter) (ids closed : List ℕ) (spans : Spans) (id : ℕ) (node : Node) → stands_in id ids ≡ false → ((p : ℕ) → node.parent ≡ Some p → IsOpen spans p) → 0 < holders node → node.bits ≡ admission_set rules node.target node.level
-    → IsSettled rules ids closed spans → IsSettled rules (ids ++ id ∷ []) closed (with_node spans id node)
+    → IsSettled rules ids closed spans → IsSettled rules (ids ++ id ∷ []) closed (with_entry spans id node)
 settled_made rules ids closed spans id node fresh parent held bits w =
     let absent : find spans id ≡ None = not_some (find spans id) (λ o. false≢true (sym fresh ∙ w.open_issued id o)) in
     let apart : (j : ℕ) → stands_in j ids ≡ true → j ≢ id = λ j there e. false≢true (sym fresh ∙ (ap (λ k. stands_in k ids) (sym e) ∙ there)) in
-    let new_open : IsOpen (with_node spans id node) id = open_of (with_node spans id node) id node (find-with_same spans id node absent) in
-    let still : (j : ℕ) → j ≢ id → IsOpen spans j → IsOpen (with_node spans id node) j = λ j ne o. subst IsSome (sym (find-with_other spans id j node ne)) o in
+    let new_open : IsOpen (with_entry spans id node) id = open_of (with_entry spans id node) id node (find-with_same spans id node absent) in
+    let still : (j : ℕ) → j ≢ id → IsOpen spans j → IsOpen (with_entry spans id node) j = λ j ne o. subst IsSome (sym (find-with_other spans id j node ne)) o in
     record {
       upheld = upheld_with spans id node w.upheld absent parent held;
       open_issued = λ j o. elim (eqb_tells j id) [
@@ -157,9 +160,9 @@ settled_made rules ids closed spans id node fresh parent held bits w =
       ];
       closed_issued = λ j h. stands_before j ids (id ∷ []) (w.closed_issued j h);
       closed_gone = λ j h. find-with_other spans id j node (apart j (w.closed_issued j h)) ∙ w.closed_gone j h;
-      rest_open = λ j h k. stands_either j ids (id ∷ []) (IsOpen (with_node spans id node) j) h
+      rest_open = λ j h k. stands_either j ids (id ∷ []) (IsOpen (with_entry spans id node) j) h
           (λ before. still j (apart j before) (w.rest_open j before k))
-          (λ new. subst (λ i. IsOpen (with_node spans id node) i) (stands_single j id new) new_open);
+          (λ new. subst (λ i. IsOpen (with_entry spans id node) i) (stands_single j id new) new_open);
       once = all_pairs_push (λ first later. first ≢ later) ids id w.once (λ k d low. apart (get_or ids k d) (stands_at ids k d low));
       bits = λ j other h. elim (eqb_tells j id) [
         | inl t ↦ (let same : Some node ≡ Some other = sym (find-with_same spans id node absent) ∙ (rw t.1 at h) in let here : node ≡ other = cc in rw (← here) bits)
@@ -213,7 +216,7 @@ stack_step rules ids old (enter worker id) (entered first) new h w j there =
       | inl before ↦ inl before
       | inr pushed ↦ either (has (stack_of old worker) j) (id == j) ((has (stack_of old w) j ≡ true) ⊎ IsOpen old.spans j) (sym (has-push (stack_of old worker) id j) ∙ pushed.1)
           (λ before. inl (ap (λ k. has (stack_of old k) j) pushed.0 ∙ before))
-          (λ same. inr (subst (λ k. IsOpen old.spans k) (eqb-true id j same) (open_held old.spans id Handle h.held)))
+          (λ same. inr (subst (λ k. IsOpen old.spans k) (eqb-true id j same) (open_held old.spans id Handle (held_from old.spans id h.known))))
     ]
 stack_step rules ids old (exit worker id) (exited closed) new h w j there =
     elim (stack_set old.stacks worker w j (without_last (stack_of old worker) id) (ap (λ (v : World). has (stack_of v w) j) (sym h.after) ∙ there)) [
@@ -226,7 +229,7 @@ stack_step rules ids old (exit worker id) (exited closed) new h w j there =
 stack_step rules ids old (try_close worker id) (released closed) new h w j there = inl (ap (λ (v : World). has (stack_of v w) j) (sym h.after) ∙ there)
 stack_step rules ids old (record_fields worker id fields) recorded new h w j there = inl (ap (λ (v : World). has (stack_of v w) j) (sym h.after) ∙ there)
 stack_step rules ids old (event worker meta message fields parent) told new h w j there = inl (ap (λ (v : World). has (stack_of v w) j) (sym h.after) ∙ there)
-stack_step rules ids old _ _ new h w j there = absurd h
+stack_step rules ids old _ _ new h w j there = absurd (false≢true (answered h))
 
 -- ---- a history
 
@@ -245,7 +248,7 @@ settled_step rules ids closed old request answer new change w inside =
     elim (effect rules ids old request answer new change) [
       | stays same quiet ↦ settled_same rules ids _ closed _ old.spans _ (rw quiet.issued (append_nil ids)) (rw quiet.closed (append_nil closed)) same w
       | changes f id mild other same quiet ↦ settled_same rules ids _ closed _ (with_change f old.spans id) _ (rw quiet.issued (append_nil ids)) (rw quiet.closed (append_nil closed)) same (settled_changed rules ids closed old.spans f id mild w)
-      | makes m ↦ settled_same rules (ids ++ m.id ∷ []) _ closed _ (with_node old.spans m.id m.node) _ (rw m.issued refl) (rw m.closed (append_nil closed)) m.spans (settled_made rules ids closed old.spans m.id m.node m.fresh m.parent m.held m.bits w)
+      | makes m ↦ settled_same rules (ids ++ m.id ∷ []) _ closed _ (with_entry old.spans m.id m.node) _ (rw m.issued refl) (rw m.closed (append_nil closed)) m.spans (settled_made rules ids closed old.spans m.id m.node m.fresh m.parent m.held m.bits w)
       | frees m ↦ (let known : stands_in m.id ids ≡ true = elim m.known [ inl o ↦ w.open_issued m.id o | inr k ↦ inside k.0 m.id k.1 ] in
           settled_same rules ids _ (closed ++ closing_list old.spans m.id m.holder) _ (spans_left old.spans m.id m.holder) _ (rw m.issued (append_nil ids)) (rw m.closed refl) m.spans (settled_freed rules ids closed old.spans m.id m.holder known w))
     ]

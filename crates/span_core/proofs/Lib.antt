@@ -10,6 +10,8 @@ pub mod Remembering
 pub mod ClosingPaths
 pub mod Counted
 pub mod Deciding
+pub mod Steps
+pub mod Judging
 pub mod Outcomes
 pub mod Effects
 pub mod Legal

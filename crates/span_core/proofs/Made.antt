@@ -5,8 +5,9 @@ use Rattle.span_forest.specs.declared.span.Holder.{Holder}
 use Rattle.span_forest.specs.Spans.{Spans, IsOpen, parent_of}
 use Rattle.span_forest.specs.Holders.{with_less}
 use Rattle.span_forest.specs.Release.{without_holder, closing_list, spans_left}
-use Rattle.span_forest.specs.inside.Chain.{without, without_all, Chain, IsPending}
-use Rattle.span_forest.proofs.Finds.{length-without}
+use Rattle.span_slots.specs.Table.{without_entry}
+use Rattle.span_forest.specs.inside.Chain.{without_all, Chain, IsPending}
+use Rattle.span_slots.proofs.Apart.{length-without_entry}
 use Rattle.span_forest.proofs.Nodes.{with_less-parent, IsForest-changed, changed_open, IsOpen-changed, written-taken_other}
 use Rattle.span_forest.proofs.Totals.{length-changed}
 use Rattle.span_forest.proofs.Chains.{IsPending-without, IsReleased-from_Chain, Chain-from_walk}
@@ -20,7 +21,7 @@ use Rattle.span_core.specs.History.IsLegal.{none, more}
 use Rattle.span_core.specs.ClosedSpans.{closed_by, closed_in}
 use Rattle.span_core.proofs.Effects.{effect}
 use Rattle.span_core.proofs.Effects.Effect.{stays, changes, makes, frees}
-use Rattle.span_core.proofs.NewSpans.{length-with_node}
+use Rattle.span_core.proofs.NewSpans.{length-with_entry}
 use Rattle.span_core.proofs.Legal.{whole, issued_more, closed_more}
 use Rattle.span_core.proofs.LegalWorlds.{legal_world}
 
@@ -68,8 +69,8 @@ length_chain : (xs : List ℕ) (spans : Spans) (o : Option ℕ) → IsPending sp
 length_chain [] spans o h c = omega arith
 length_chain (x ∷ xs) spans o h c =
     let here : IsPending spans (Some x) = subst (λ v. IsPending spans v) c.0 h in
-    let less = length-without spans x h.forest.ids_apart (h.here x c.0) in
-    let rest = length_chain xs (without spans x) (parent_of spans x) (IsPending-without spans x here c.1) c.2 in
+    let less = length-without_entry spans x h.forest.ids_apart (h.here x c.0) in
+    let rest = length_chain xs (without_entry spans x) (parent_of spans x) (IsPending-without spans x here c.1) c.2 in
     omega (arith, less, rest)
 
 length_freed : (spans : Spans) (id : ℕ) (holder : Holder) → IsUpheld spans → IsOpen spans id → length (spans_left spans id holder) + length (closing_list spans id holder) ≡ length spans
@@ -96,7 +97,7 @@ balanced rules ids old request answer new change w world =
     elim (effect rules ids old request answer new change) [
       | stays same quiet ↦ rw (quiet.issued, quiet.closed, same) (omega arith)
       | changes f id mild other same quiet ↦ rw (quiet.issued, quiet.closed, same) (let kept = length-changed f old.spans id in omega (arith, kept))
-      | makes m ↦ rw (m.issued, m.closed, m.spans) (let one = length-with_node old.spans m.id m.node in omega (arith, one))
+      | makes m ↦ rw (m.issued, m.closed, m.spans) (let one = length-with_entry old.spans m.id m.node in omega (arith, one))
       | frees m ↦ rw (m.issued, m.closed, m.spans) (let less = length_freed old.spans m.id m.holder w (m.there world) in omega (arith, less))
     ]
 

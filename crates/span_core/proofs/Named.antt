@@ -15,6 +15,8 @@ use Rattle.span_forest.proofs.Upheld.{IsUpheld}
 use Rattle.span_core.specs.World.{World, IsWorld}
 use Rattle.span_outlet.specs.Request.{exit, try_close, exited, released}
 use Rattle.span_core.specs.Step.{Changes, stays_inside}
+use Rattle.span_core.proofs.Deciding.{held_from}
+use Rattle.span_core.proofs.Steps.{exit_closes, release_closes}
 use Rattle.span_core.proofs.Effects.{open_held}
 use Rattle.span_core.proofs.Legal.{IsSettled}
 use Rattle.span_core.proofs.Released.{ClosesExactly, closes_exactly}
@@ -40,14 +42,14 @@ named_gone (x ∷ xs) old new id exact there first = (λ some. (exact.0 (first (
 module _ (rules : List Filter) (ids before : List ℕ) (old : World) (worker id : ℕ) (closed : List ℕ) (new : World) (w : IsSettled rules ids before old.spans) (world : IsWorld old) where
   pub named_by_close : Changes rules ids old (try_close worker id) (released closed) new → IsTrue (nat_lt 0 (length closed)) ↔ (find new.spans id ≡ None)
   named_by_close change =
-      named_gone closed old.spans new.spans id (closes_exactly rules ids before old (try_close worker id) (released closed) new change w world id) (open_held old.spans id Handle change.held)
-      (λ some. subst (λ (list : List ℕ). stands_in id list ≡ true) (sym change.closed_are) (named_first old.spans id Handle w.upheld (subst (λ (list : List ℕ). 0 < length list) change.closed_are some)))
+      named_gone closed old.spans new.spans id (closes_exactly rules ids before old (try_close worker id) (released closed) new change w world id) (open_held old.spans id Handle (held_from old.spans id change.known))
+      (λ some. subst (λ (list : List ℕ). stands_in id list ≡ true) (sym (release_closes change)) (named_first old.spans id Handle w.upheld (subst (λ (list : List ℕ). 0 < length list) (release_closes change) some)))
 
   pub named_by_exit : Changes rules ids old (exit worker id) (exited closed) new → IsOpen old.spans id → IsTrue (nat_lt 0 (length closed)) ↔ (find new.spans id ≡ None)
   named_by_exit change there =
       named_gone closed old.spans new.spans id (closes_exactly rules ids before old (exit worker id) (exited closed) new change w world id) there
       (λ some. elim (cases_Bool (stays_inside old worker id)) [
-        | inl t ↦ absurd (let none : closed ≡ [] = change.closed_are ∙ rw t refl in let few = ap length none in omega (arith, some, few))
-        | inr t ↦ (let is : closed ≡ closing_list old.spans id Entry = change.closed_are ∙ rw t refl in
+        | inl t ↦ absurd (let none : closed ≡ [] = exit_closes change ∙ rw t refl in let few = ap length none in omega (arith, some, few))
+        | inr t ↦ (let is : closed ≡ closing_list old.spans id Entry = exit_closes change ∙ rw t refl in
             subst (λ (list : List ℕ). stands_in id list ≡ true) (sym is) (named_first old.spans id Entry w.upheld (subst (λ (list : List ℕ). 0 < length list) is some)))
       ])

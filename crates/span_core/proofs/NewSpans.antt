@@ -16,20 +16,20 @@ use Rattle.span_layers.specs.declared.note.Kind.TheVariants.{OnNew}
 use Rattle.span_id.specs.Meta.{KeyValue, PlainMeta}
 use Rattle.span_layers.specs.declared.note.Note.{Note}
 use Rattle.span_layers.specs.Note.{PlainNote, plain_note}
-use Rattle.span_layers.specs.Filter.{Filter, layer_wants}
-use Rattle.span_forest.specs.Node.{Node}
-use Rattle.span_forest.specs.Spans.{Spans, find, IsOpen, with_node, parent_in, parent_of}
+use Rattle.span_layers.specs.Filter.{Filter, layer_wants, admission_set}
+use Rattle.span_forest.specs.Node.{Node, new_node}
+use Rattle.span_forest.specs.Spans.{Spans, find, IsOpen, with_entry, parent_in, parent_of}
 use Rattle.span_forest.specs.declared.span.Holder.TheVariants.{Entry}
 use Rattle.span_forest.specs.Holders.{held_in}
 use Rattle.span_forest.specs.Forest.{ForestView, table_of, next_span_id}
 use Rattle.span_forest.specs.Live.{stands_in}
 use Rattle.span_forest.specs.Walk.{walk_within}
 use Rattle.span_forest.specs.Path.{path, path_text, names_for, name_for}
-use Rattle.span_forest.proofs.Adds.{find-with_same, find-with_other}
+use Rattle.span_slots.proofs.Entries.{find-with_same, find-with_other}
 use Rattle.span_core.specs.World.{IsWorld}
 use Rattle.span_outlet.specs.Request.{new_span, made}
 use Rattle.span_outlet.specs.Batch.{PlainBatch}
-use Rattle.span_core.specs.Step.{is_open_parent, IsStep, is_wanted_meta, made_node}
+use Rattle.span_core.specs.Step.{is_open_parent, IsStep, is_wanted_meta}
 use Rattle.span_core.specs.History.{issued}
 use Rattle.span_core.specs.NextId.{next_id_after}
 use Rattle.span_core.specs.Happening.{at_span, is_told, note_of, notes_of, notes_of_all, path_at}
@@ -39,10 +39,10 @@ use Rattle.span_core.proofs.Telling.{one_happening}
 abbrev pub ParentsOpen : Spans → Type 0
 ParentsOpen spans = (id parent : ℕ) → parent_of spans id ≡ Some parent → IsOpen spans parent
 
-pub length-with_node : (spans : Spans) (id : ℕ) (node : Node) → length (with_node spans id node) ≡ suc (length spans)
-length-with_node [] id node = refl
-length-with_node (e ∷ es) id node =
-    elim (cases_Bool (nat_lt (slot_of id) (slot_of e.0))) [ inl t ↦ rw t refl | inr t ↦ rw t (ap suc (length-with_node es id node)) ]
+pub length-with_entry : (spans : Spans) (id : ℕ) (node : Node) → length (with_entry spans id node) ≡ suc (length spans)
+length-with_entry [] id node = refl
+length-with_entry (e ∷ es) id node =
+    elim (cases_Bool (nat_lt (slot_of id) (slot_of e.0))) [ inl t ↦ rw t refl | inr t ↦ rw t (ap suc (length-with_entry es id node)) ]
 
 apart : (spans : Spans) (id j : ℕ) → find spans id ≡ None → IsOpen spans j → j ≢ id
 apart spans id j gone there same = absurd (false≢true (sym (ap is_some gone) ∙ subst (λ k. IsOpen spans k) same there))
@@ -56,12 +56,12 @@ parent_is_open spans j whole = by_case (parent_of spans j) refl
 
 -- what stands above a span that was there before is as before
 names_before : (n : ℕ) (spans : Spans) (id : ℕ) (node : Node) (layer : ℕ) → find spans id ≡ None → ParentsOpen spans → (o : Option ℕ) → is_open_parent spans o ≡ true
-    → names_for layer (with_node spans id node) (walk_within n (with_node spans id node) o) ≡ names_for layer spans (walk_within n spans o)
+    → names_for layer (with_entry spans id node) (walk_within n (with_entry spans id node) o) ≡ names_for layer spans (walk_within n spans o)
 names_before n spans id node layer gone whole None there = refl
 names_before zero spans id node layer gone whole (Some j) there = refl
 names_before (suc n) spans id node layer gone whole (Some j) there =
-    let same : find (with_node spans id node) j ≡ find spans j = find-with_other spans id j node (apart spans id j gone there) in
-    ap (λ o. name_for layer o ++ names_for layer (with_node spans id node) (walk_within n (with_node spans id node) (parent_in o))) same
+    let same : find (with_entry spans id node) j ≡ find spans j = find-with_other spans id j node (apart spans id j gone there) in
+    ap (λ o. name_for layer o ++ names_for layer (with_entry spans id node) (walk_within n (with_entry spans id node) (parent_in o))) same
     ∙ ap (λ ns. name_for layer (find spans j) ++ ns) (names_before n spans id node layer gone whole (parent_of spans j) (parent_is_open spans j whole))
 
 pub path_is : (spans : Spans) (layer : ℕ) (o : Option ℕ) → reverse (names_for layer spans (walk_within (length spans) spans o)) ≡ path_at layer spans o
@@ -70,11 +70,11 @@ path_is spans layer (Some p) = refl
 
 -- the path of a new span is that of its parent, and its own name
 pub new_path : (spans : Spans) (id : ℕ) (node : Node) (layer : ℕ) → find spans id ≡ None → ParentsOpen spans → is_open_parent spans node.parent ≡ true → has_bit node.bits layer ≡ true
-    → path layer (with_node spans id node) id ≡ path_at layer spans node.parent ++ node.name ∷ []
+    → path layer (with_entry spans id node) id ≡ path_at layer spans node.parent ++ node.name ∷ []
 new_path spans id node layer gone whole there admitted =
-    let here : find (with_node spans id node) id ≡ Some node = find-with_same spans id node gone in
-    let new = with_node spans id node in
-    ap (λ n. reverse (names_for layer new (walk_within n new (Some id)))) (length-with_node spans id node)
+    let here : find (with_entry spans id node) id ≡ Some node = find-with_same spans id node gone in
+    let new = with_entry spans id node in
+    ap (λ n. reverse (names_for layer new (walk_within n new (Some id)))) (length-with_entry spans id node)
     ∙ ap (λ o. reverse (name_for layer o ++ names_for layer new (walk_within (length spans) new (parent_in o)))) here
     ∙ ap (λ b. reverse (cond b (node.name ∷ []) [] ++ names_for layer new (walk_within (length spans) new node.parent))) admitted
     ∙ ap (λ ns. reverse (node.name ∷ ns)) (names_before (length spans) spans id node layer gone whole node.parent there)
@@ -99,31 +99,31 @@ and_first false b h = h
 
 -- the notes of a new span
 pub new_notes : (rules : List Filter) (worker id : ℕ) (spans new_spans : Spans) (node : Node) (fields : List KeyValue) (notes : List PlainNote)
-    → find spans id ≡ None → ParentsOpen spans → is_open_parent spans node.parent ≡ true → new_spans ≡ with_node spans id node
+    → find spans id ≡ None → ParentsOpen spans → is_open_parent spans node.parent ≡ true → new_spans ≡ with_entry spans id node
     → notes ≡ map (first_note spans worker id node.parent node.name fields) (filter (hears rules node.bits OnNew) (range_with_len 0 (length rules)))
     → notes ≡ notes_of_all rules worker (at_span new_spans OnNew id fields ∷ [])
 new_notes rules worker id spans new_spans node fields notes gone whole there are told =
     one_happening rules worker (at_span new_spans OnNew id fields) [] notes refl
     (told ∙ all ∙ ap (λ s. notes_of rules worker (at_span s OnNew id fields)) (sym are))
   where
-    here : find (with_node spans id node) id ≡ Some node
+    here : find (with_entry spans id node) id ≡ Some node
     here = find-with_same spans id node gone
 
-    bits_are : option_map_or (λ (n : Node). n.bits) (find (with_node spans id node) id) 0 ≡ node.bits
+    bits_are : option_map_or (λ (n : Node). n.bits) (find (with_entry spans id node) id) 0 ≡ node.bits
     bits_are = ap (λ (o : Option Node). option_map_or (λ n. n.bits) o 0) here
 
-    all : map (first_note spans worker id node.parent node.name fields) (filter (hears rules node.bits OnNew) (range_with_len 0 (length rules))) ≡ notes_of rules worker (at_span (with_node spans id node) OnNew id fields)
+    all : map (first_note spans worker id node.parent node.name fields) (filter (hears rules node.bits OnNew) (range_with_len 0 (length rules))) ≡ notes_of rules worker (at_span (with_entry spans id node) OnNew id fields)
     all =
-        map-filter-same (first_note spans worker id node.parent node.name fields) (note_of worker (at_span (with_node spans id node) OnNew id fields)) (hears rules node.bits OnNew) (is_told rules (at_span (with_node spans id node) OnNew id fields))
+        map-filter-same (first_note spans worker id node.parent node.name fields) (note_of worker (at_span (with_entry spans id node) OnNew id fields)) (hears rules node.bits OnNew) (is_told rules (at_span (with_entry spans id node) OnNew id fields))
         (λ k. ap (λ b. has_bit b k && layer_wants rules k OnNew) (sym bits_are))
         (λ k told_k. let admitted = and_first (has_bit node.bits k) (layer_wants rules k OnNew) told_k in
         let p = ap path_text (sym (new_path spans id node k gone whole there admitted)) in
-        λ j. record { layer = k; kind = OnNew; worker = worker; id = id; path = p j; fields = fields; tail = None })
+        λ j. record { layer = k; kind = OnNew; worker = worker; id = id; path = p j; fields = fields; event = None })
         (range_with_len 0 (length rules))
 
 -- the path that each of them tells is what its layer reads at the span once it is there
 pub new_paths : (rules : List Filter) (worker id : ℕ) (spans new_spans : Spans) (node : Node) (fields : List KeyValue) (layers : List ℕ) (notes : List Note)
-    → find spans id ≡ None → ParentsOpen spans → is_open_parent spans node.parent ≡ true → new_spans ≡ with_node spans id node
+    → find spans id ≡ None → ParentsOpen spans → is_open_parent spans node.parent ≡ true → new_spans ≡ with_entry spans id node
     → map plain_note notes ≡ map (first_note spans worker id node.parent node.name fields) (filter (hears rules node.bits OnNew) layers)
     → All (λ (note : Note). arc_str_bytes note.path ≡ path_text (path note.layer new_spans id)) notes
 new_paths rules worker id spans new_spans node fields layers notes gone whole there are told = each notes all
@@ -157,30 +157,32 @@ not_open spans id Issued issued never = by_case (find spans id) refl
     by_case None is = refl
     by_case (Some node) is = absurd (never (issued (ap is_some is)))
 
-pub world_new : (spans : Spans) (id : ℕ) (node : Node) (stacks : List (List ℕ)) → find spans id ≡ None → node.entries ≡ 0 → IsWorld (record { spans = spans; stacks = stacks }) → IsWorld (record { spans = with_node spans id node; stacks = stacks })
+pub world_new : (spans : Spans) (id : ℕ) (node : Node) (stacks : List (List ℕ)) → find spans id ≡ None → node.entries ≡ 0 → IsWorld (record { spans = spans; stacks = stacks }) → IsWorld (record { spans = with_entry spans id node; stacks = stacks })
 world_new spans id node stacks gone none whole = record { entered = λ j. same j ∙ whole.entered j }
   where
-    same : (j : ℕ) → held_in Entry (find (with_node spans id node) j) ≡ held_in Entry (find spans j)
+    same : (j : ℕ) → held_in Entry (find (with_entry spans id node) j) ≡ held_in Entry (find spans j)
     same j =
         elim (eqb_tells j id) [
-          | inl t ↦ subst (λ (k : ℕ). held_in Entry (find (with_node spans id node) k) ≡ held_in Entry (find spans k)) (sym t.1)
+          | inl t ↦ subst (λ (k : ℕ). held_in Entry (find (with_entry spans id node) k) ≡ held_in Entry (find spans k)) (sym t.1)
               (ap (held_in Entry) (find-with_same spans id node gone) ∙ none ∙ sym (ap (held_in Entry) gone))
           | inr t ↦ ap (held_in Entry) (find-with_other spans id j node t.1)
         ]
 
 pub step_new : (rules : List Filter) (ids : List ℕ) (spans new_spans : Spans) (stacks : List (List ℕ)) (worker id : ℕ) (meta : PlainMeta) (fields : List KeyValue) (parent : Option ℕ) (notes : List PlainNote)
     → worker < length stacks → IsId id → stands_in id ids ≡ false → is_wanted_meta rules meta ≡ true → is_open_parent spans parent ≡ true
-    → new_spans ≡ with_node spans id (made_node rules meta fields parent)
+    → new_spans ≡ with_entry spans id (new_node meta fields parent (admission_set rules meta.target meta.level))
     → notes ≡ notes_of_all rules worker (at_span new_spans OnNew id fields ∷ [])
     → IsStep rules ids (record { spans = spans; stacks = stacks }) (new_span worker meta fields parent) (made id) notes (record { spans = new_spans; stacks = stacks })
 step_new rules ids spans new_spans stacks worker id meta fields parent notes within in_layout not_issued wanted there spans_are notes_are =
     record {
       within = within;
       changes = record {
-        in_layout = in_layout;
-        not_issued = not_issued;
         wanted = wanted;
-        parent_open = there;
+        known = there;
+        inside = refl;
+        id = id;
+        answer_is = refl;
+        id_is_new = (in_layout, not_issued);
         after = λ j. record { spans = spans_are j; stacks = stacks };
       };
       notes_are = notes_are;

@@ -3,12 +3,12 @@ use Rattle.std.proofs.Common.{◌≡◌, ◌≢◌, ℕ, true, false, List, [], 
 use Rattle.std.specs.Prelude.{◌↔◌, IsSome, AllPairs}
 use Rattle.std.proofs.lemmas.Bool.{false≢true}
 use Rattle.span_layers.specs.Filter.{Filter}
-use Rattle.span_forest.specs.Spans.{Spans, find, IsOpen, parent_of, with_node}
+use Rattle.span_forest.specs.Spans.{Spans, find, IsOpen, parent_of, with_entry}
 use Rattle.span_forest.specs.Live.{stands_in, is_live}
 use Rattle.span_forest.proofs.Ranks.{ranked}
 use Rattle.span_forest.proofs.Walks.{all_live}
 use Rattle.span_forest.proofs.Nodes.{changed_open}
-use Rattle.span_forest.proofs.Adds.{find-with_other}
+use Rattle.span_slots.proofs.Entries.{find-with_other}
 use Rattle.span_forest.proofs.Orders.{list_once, list_child_first}
 use Rattle.span_forest.proofs.Spared.{none_open, gone_exactly, dead_exactly, listed_open, others_stay}
 use Rattle.span_core.specs.World.{World, IsWorld}
@@ -37,7 +37,7 @@ live_all old left closed id none same live =
     rw (none, same) (λ t. absurd (false≢true t), λ dead. absurd (false≢true (sym dead ∙ live)))
 
 module _ (rules : List Filter) (ids closed : List ℕ) (old : World) (request : Request) (answer : Answer) (new : World) (change : Changes rules ids old request answer new) (w : IsSettled rules ids closed old.spans) where
-  still_made : (m : Makes rules ids old request answer new) (id : ℕ) → IsOpen old.spans id → IsOpen (with_node old.spans m.id m.node) id
+  still_made : (m : Makes rules ids old request answer new) (id : ℕ) → IsOpen old.spans id → IsOpen (with_entry old.spans m.id m.node) id
   still_made m id o =
       let apart : id ≢ m.id = λ e. false≢true (sym m.fresh ∙ ap (λ k. stands_in k ids) (sym e) ∙ w.open_issued id o) in
       subst IsSome (sym (find-with_other old.spans m.id id m.node apart)) o

@@ -15,7 +15,7 @@ use Rattle.span_slots.specs.Table.{IsIssued}
 use Rattle.span_forest.specs.declared.span.Holder.{Holder}
 use Rattle.span_forest.specs.declared.span.Holder.TheVariants.{Handle, Entry}
 use Rattle.span_forest.specs.Node.{Node, with_fields}
-use Rattle.span_forest.specs.Spans.{Spans, find, IsOpen, with_node, with_change, parent_in, parent_of}
+use Rattle.span_forest.specs.Spans.{Spans, find, IsOpen, with_entry, with_change, parent_in, parent_of}
 use Rattle.span_forest.specs.Holders.{with_more, with_less}
 use Rattle.span_forest.specs.Keep.{with_holder}
 use Rattle.span_forest.specs.Forest.{ForestView, table_of}
@@ -24,7 +24,8 @@ use Rattle.span_forest.specs.Release.{without_holder, spans_left}
 use Rattle.span_forest.specs.Live.{is_live}
 use Rattle.span_forest.specs.Walk.{walk_within, Ends}
 use Rattle.span_forest.specs.Path.{path, path_text, names_for, name_for}
-use Rattle.span_forest.proofs.Adds.{find-with_other, open_back}
+use Rattle.span_slots.proofs.Entries.{find-with_other}
+use Rattle.span_forest.proofs.Adds.{open_back}
 use Rattle.span_forest.proofs.Nodes.{find-changed_same, find-changed_other, parent_of-changed, IsOpen-changed}
 use Rattle.span_forest.proofs.Slotted.{issue_more}
 use Rattle.span_core.specs.declared.known_paths.KnownPath.{KnownPath}
@@ -120,10 +121,10 @@ remembers_new old new id node known is never gone whole old_ends new_ends =
     apart : (j : ℕ) → IsOpen old.spans j → j ≢ id
     apart j there same = absurd (false≢true (sym (ap is_some gone) ∙ subst (λ k. IsOpen old.spans k) same there))
 
-    found : new.spans ≡ with_node old.spans id node → (j : ℕ) → IsOpen old.spans j → find new.spans j ≡ find old.spans j
+    found : new.spans ≡ with_entry old.spans id node → (j : ℕ) → IsOpen old.spans j → find new.spans j ≡ find old.spans j
     found spans_are j there = ap (λ spans. find spans j) spans_are ∙ find-with_other old.spans id j node (apart j there)
 
-    part : (layer : ℕ) → new.spans ≡ with_node old.spans id node → IsPart layer old.spans new.spans
+    part : (layer : ℕ) → new.spans ≡ with_entry old.spans id node → IsPart layer old.spans new.spans
     part layer spans_are = record {
       names = λ j there. ap (name_for layer) (found spans_are j there);
       parents = λ j there. ap parent_in (found spans_are j there);

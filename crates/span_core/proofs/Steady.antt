@@ -4,9 +4,10 @@ use Rattle.std.specs.Prelude.{is_some, unwrap_or}
 use Rattle.std.proofs.lemmas.List.{length-replicate}
 use Rattle.span_id.specs.declared.limits.Limits.{Limits}
 use Rattle.span_layers.specs.Note.{PlainNote}
+use Rattle.span_layers.specs.Filter.{admission_set}
 use Rattle.span_forest.specs.declared.span.Holder.{Holder}
 use Rattle.span_forest.specs.declared.span.Holder.TheVariants.{Handle, Entry}
-use Rattle.span_forest.specs.Node.{Node, with_fields}
+use Rattle.span_forest.specs.Node.{Node, new_node, with_fields}
 use Rattle.span_forest.specs.Spans.{Spans, IsOpen, with_change}
 use Rattle.span_forest.specs.Live.{is_live}
 use Rattle.span_forest.specs.Holders.{with_more}
@@ -18,11 +19,12 @@ use Rattle.span_forest.proofs.Upheld.{IsUpheld, upheld_empty, upheld_with, uphel
 use Rattle.span_stack.specs.Stack.{has, without_last}
 use Rattle.span_core.specs.World.{World, IsWorld, empty_world, stack_of}
 use Rattle.span_outlet.specs.Request.{Request, new_span, clone_span, enter, exit, try_close, record_fields, event, Answer, worker_of}
-use Rattle.span_core.specs.Step.{made_node, is_open_parent, stays_inside}
+use Rattle.span_core.specs.Step.{is_open_parent, stays_inside, answer_to, world_after}
 use Rattle.span_core.specs.NextId.{SlotsUsed, slots_after, with_answer}
 use Rattle.span_core.specs.Core.{CoreView, id_after, IsDue}
-use Rattle.span_core.specs.Outcome.{answer_to, world_after, core_after}
+use Rattle.span_core.specs.Outcome.{core_after}
 use Rattle.span_core.proofs.Deciding.{held_from}
+use Rattle.span_core.proofs.Judging.{tests_of}
 use Rattle.span_core.proofs.Soundness.{slots_more}
 use Rattle.span_core.proofs.Worlds.{nobody_inside, world_kept_handle, world_changed, world_released_handle, world_entered}
 use Rattle.span_core.proofs.NewSpans.{world_new}
@@ -119,10 +121,10 @@ exit_steady core worker id notes steady low inside = by_case (stays_inside core.
 pub steady_then : (core : CoreView) (request : Request) (notes : List PlainNote) → IsSteady core → worker_of request < core.limits.workers → IsDue core request → IsSteady (core_then core request notes)
 steady_then core (new_span worker meta fields parent) notes steady low due =
     let spans = core.world.spans in
-    let node = made_node core.rules meta fields parent in
-    let next = agrees_made core.limits.slots core.limits.last_generation spans (used_in core) steady.slots due.slot in
+    let node = new_node meta fields parent (admission_set core.rules meta.target meta.level) in
+    let next = agrees_made core.limits.slots core.limits.last_generation spans (used_in core) steady.slots (tests_of core (new_span worker meta fields parent) due).slot in
     then_steady core (new_span worker meta fields parent) notes
-    (upheld_with spans (unwrap_or (id_after core) 0) node steady.upheld next.0 (parent_open spans parent due.known) (omega arith))
+    (upheld_with spans (unwrap_or (id_after core) 0) node steady.upheld next.0 (parent_open spans parent (tests_of core (new_span worker meta fields parent) due).known) (omega arith))
     (world_new spans (unwrap_or (id_after core) 0) node core.world.stacks next.0 refl steady.world)
     steady.stacks
     (next.1 node)
@@ -135,7 +137,7 @@ steady_then core (clone_span worker id) notes steady low due =
     (agrees_fewer core.limits.slots spans (with_holder spans id Handle) (used_in core) (λ j there. IsOpen-changed _ spans id j there) steady.slots)
 steady_then core (enter worker id) notes steady low due =
     let spans = core.world.spans in
-    let there = held_open spans id Handle (held_from spans id due.known) in
+    let there = held_open spans id Handle (held_from spans id (tests_of core (enter worker id) due).known) in
     let within : worker < length core.world.stacks = omega (arith, low, steady.stacks) in
     let stands = has (stack_of core.world worker) id in
     then_steady core (enter worker id) notes
@@ -151,7 +153,7 @@ steady_then core (enter worker id) notes steady low due =
     slots_if : (first : Bool) → Agrees core.limits.slots (cond first (with_holder core.world.spans id Entry) core.world.spans) (used_in core)
     slots_if true = agrees_fewer core.limits.slots core.world.spans (with_holder core.world.spans id Entry) (used_in core) (λ j there. IsOpen-changed _ core.world.spans id j there) steady.slots
     slots_if false = steady.slots
-steady_then core (exit worker id) notes steady low due = exit_steady core worker id notes steady low due.inside
+steady_then core (exit worker id) notes steady low due = exit_steady core worker id notes steady low (tests_of core (exit worker id) due).inside
 steady_then core (try_close worker id) notes steady low due =
     let spans = core.world.spans in
     then_steady core (try_close worker id) notes
@@ -159,7 +161,7 @@ steady_then core (try_close worker id) notes steady low due =
     (world_released_handle spans id core.world.stacks steady.world)
     steady.stacks
     (agrees_closed core.limits.slots core.limits.last_generation spans (spans_left spans id Handle) (used_in core) (closing_list spans id Handle) (left_open spans id Handle)
-    (listed_open spans steady.upheld.forest steady.upheld.positive id Handle (ap is_some (held_open spans id Handle (held_from spans id due.known)).1))
+    (listed_open spans steady.upheld.forest steady.upheld.positive id Handle (ap is_some (held_open spans id Handle (held_from spans id (tests_of core (try_close worker id) due).known)).1))
     steady.slots)
 steady_then core (record_fields worker id fields) notes steady low due =
     let spans = core.world.spans in

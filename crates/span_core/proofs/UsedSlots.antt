@@ -9,7 +9,7 @@ use Rattle.span_slots.specs.Table.{issue, next_slot_of}
 use Rattle.span_slots.proofs.Ids.{slot_of_id, generation_of_id}
 use Rattle.span_slots.proofs.Issued.{AreBelow, AreBelow-more, AreBelow-drop, used_since, get_or-issue_same, length-issue}
 use Rattle.span_forest.specs.Node.{Node}
-use Rattle.span_forest.specs.Spans.{Spans, find, IsOpen, with_node}
+use Rattle.span_forest.specs.Spans.{Spans, find, IsOpen, with_entry}
 use Rattle.span_forest.specs.Live.{stands_in}
 use Rattle.span_forest.specs.Release.{freed_after}
 use Rattle.span_forest.proofs.Adds.{open_back}
@@ -96,7 +96,7 @@ module _ (slots last : ℕ) (spans : Spans) (used : SlotsUsed) (agrees : Agrees 
           let slot_is = ap (λ k. slice_index used.given k) its_slot in
           absurd (omega (arith, issued, its_generation, slot_is))
 
-  agrees_next : (node : Node) → Agrees slots (with_node spans next node) (with_answer last used (made next))
+  agrees_next : (node : Node) → Agrees slots (with_entry spans next node) (with_answer last used (made next))
   agrees_next node = record {
     in_layout = agrees.in_layout;
     few = few;
@@ -120,14 +120,14 @@ module _ (slots last : ℕ) (spans : Spans) (used : SlotsUsed) (agrees : Agrees 
 -- the next id, where there is one, isn't open, and a new span under it keeps the slots in agreement
 pub agrees_made : (slots last : ℕ) (spans : Spans) (used : SlotsUsed) → Agrees slots spans used → is_some (next_id_from slots used) ≡ true
     → (find spans (unwrap_or (next_id_from slots used) 0) ≡ None)
-    × ((node : Node) → Agrees slots (with_node spans (unwrap_or (next_id_from slots used) 0) node) (with_answer last used (made (unwrap_or (next_id_from slots used) 0))))
+    × ((node : Node) → Agrees slots (with_entry spans (unwrap_or (next_id_from slots used) 0) node) (with_answer last used (made (unwrap_or (next_id_from slots used) 0))))
 agrees_made slots last spans used agrees there = by_case (next_slot_of slots (length used.given) used.freed) refl there
   where
     from : Option ℕ → Option ℕ
     from slot = option_map (λ s. id_of s (slice_index used.given s)) slot
 
     by_case : (o : Option ℕ) → next_slot_of slots (length used.given) used.freed ≡ o → is_some (from o) ≡ true
-        → (find spans (unwrap_or (from o) 0) ≡ None) × ((node : Node) → Agrees slots (with_node spans (unwrap_or (from o) 0) node) (with_answer last used (made (unwrap_or (from o) 0))))
+        → (find spans (unwrap_or (from o) 0) ≡ None) × ((node : Node) → Agrees slots (with_entry spans (unwrap_or (from o) 0) node) (with_answer last used (made (unwrap_or (from o) 0))))
     by_case None is some = absurd (true≢false (sym some))
     by_case (Some s) is some =
         let low = next_slot_low slots (length used.given) s used.freed agrees.few agrees.freed_used is in

@@ -6,21 +6,23 @@ use Rattle.std.proofs.lemmas.Bool.{cases_Bool, false≢true}
 use Rattle.std.proofs.lemmas.Bool.Decides.{eqb_tells}
 use Rattle.std.proofs.lemmas.List.Sums.{sum_by-set}
 use Rattle.span_layers.specs.Note.{PlainNote}
+use Rattle.span_layers.specs.Filter.{admission_set}
 use Rattle.span_forest.specs.declared.span.Holder.TheVariants.{Handle, Entry}
-use Rattle.span_forest.specs.Node.{with_fields}
+use Rattle.span_forest.specs.Node.{new_node, with_fields}
 use Rattle.span_forest.specs.Spans.{find}
 use Rattle.span_forest.specs.Count.{total_held}
 use Rattle.span_forest.specs.Holders.{IsHeld, held_in, with_more}
 use Rattle.span_forest.specs.Keep.{with_holder}
 use Rattle.span_forest.specs.Release.{spans_left}
 use Rattle.span_forest.proofs.Totals.{total-with}
-use Rattle.span_forest.proofs.Adds.{find-with_other}
+use Rattle.span_slots.proofs.Entries.{find-with_other}
 use Rattle.span_stack.specs.Stack.{has, without_last}
 use Rattle.span_core.specs.World.{World, stack_of}
 use Rattle.span_outlet.specs.Request.{Request, new_span, clone_span, enter, exit, try_close, record_fields, event, made, worker_of}
-use Rattle.span_core.specs.Step.{made_node, stays_inside}
+use Rattle.span_core.specs.Step.{stays_inside}
 use Rattle.span_core.specs.Core.{CoreView, id_after, IsDue}
 use Rattle.span_core.proofs.Deciding.{held_from}
+use Rattle.span_core.proofs.Judging.{tests_of}
 use Rattle.span_core.proofs.Accepting.{held_open, inside_held}
 use Rattle.span_core.proofs.Holds.{held-changed, handles-released, handles-left, handles-kept_other, total-released, total-kept, total-same}
 use Rattle.span_core.proofs.Steady.{IsSteady, answer_in, world_then, core_then}
@@ -89,16 +91,16 @@ enter_weight core worker id steady within held =
 pub weight_then : (core : CoreView) (request : Request) (notes : List PlainNote) → IsSteady core → worker_of request < core.limits.workers → IsDue core request → weight (core_then core request notes) ≤ weight core + most_more request
 weight_then core (new_span worker meta fields parent) notes steady low due =
     sent_more core (new_span worker meta fields parent) notes 3
-    (let is = total-with core.world.spans (unwrap_or (id_after core) 0) (made_node core.rules meta fields parent) in omega (arith, is))
+    (let is = total-with core.world.spans (unwrap_or (id_after core) 0) (new_node meta fields parent (admission_set core.rules meta.target meta.level)) in omega (arith, is))
 weight_then core (clone_span worker id) notes steady low due =
     sent_more core (clone_span worker id) notes 3
-    (let there = held_open core.world.spans id Handle (held_from core.world.spans id due.known) in let is = total-kept core.world.spans id Handle there.0 steady.upheld.forest.ids_apart there.1 in omega (arith, is))
+    (let there = held_open core.world.spans id Handle (held_from core.world.spans id (tests_of core (clone_span worker id) due).known) in let is = total-kept core.world.spans id Handle there.0 steady.upheld.forest.ids_apart there.1 in omega (arith, is))
 weight_then core (enter worker id) notes steady low due =
-    sent_more core (enter worker id) notes 3 (let more = enter_weight core worker id steady (omega (arith, low, steady.stacks)) (held_from core.world.spans id due.known) in omega (arith, more))
+    sent_more core (enter worker id) notes 3 (let more = enter_weight core worker id steady (omega (arith, low, steady.stacks)) (held_from core.world.spans id (tests_of core (enter worker id) due).known) in omega (arith, more))
 weight_then core (exit worker id) notes steady low due =
-    sent_more core (exit worker id) notes 0 (let less = exit_weight core worker id steady (omega (arith, low, steady.stacks)) due.inside in omega (arith, less))
+    sent_more core (exit worker id) notes 0 (let less = exit_weight core worker id steady (omega (arith, low, steady.stacks)) (tests_of core (exit worker id) due).inside in omega (arith, less))
 weight_then core (try_close worker id) notes steady low due =
-    sent_more core (try_close worker id) notes 0 (let less = total-released core.world.spans id Handle steady.upheld.forest.ids_apart (held_from core.world.spans id due.known) in omega (arith, less))
+    sent_more core (try_close worker id) notes 0 (let less = total-released core.world.spans id Handle steady.upheld.forest.ids_apart (held_from core.world.spans id (tests_of core (try_close worker id) due).known) in omega (arith, less))
 weight_then core (record_fields worker id fields) notes steady low due =
     sent_more core (record_fields worker id fields) notes 3 (let same = total-same (with_fields fields) (λ node. refl) core.world.spans id in omega (arith, same))
 weight_then core (event worker meta message fields parent) notes steady low due =
@@ -109,11 +111,11 @@ pub handle_before : (core : CoreView) (request : Request) → IsDue core request
 handle_before core (new_span worker meta fields parent) due j held =
     elim (eqb_tells j (unwrap_or (id_after core) 0)) [
       | inl t ↦ inr (ap made (sym t.1))
-      | inr t ↦ inl (let same = ap (held_in Handle) (find-with_other core.world.spans (unwrap_or (id_after core) 0) j (made_node core.rules meta fields parent) t.1) in omega (arith, held, same))
+      | inr t ↦ inl (let same = ap (held_in Handle) (find-with_other core.world.spans (unwrap_or (id_after core) 0) j (new_node meta fields parent (admission_set core.rules meta.target meta.level)) t.1) in omega (arith, held, same))
     ]
 handle_before core (clone_span worker id) due j held =
     elim (eqb_tells j id) [
-      | inl t ↦ inl (subst (λ (k : ℕ). IsHeld core.world.spans k Handle) (sym t.1) (held_from core.world.spans id due.known))
+      | inl t ↦ inl (subst (λ (k : ℕ). IsHeld core.world.spans k Handle) (sym t.1) (held_from core.world.spans id (tests_of core (clone_span worker id) due).known))
       | inr t ↦ inl (let same = handles-kept_other core.world.spans id j t.1 in omega (arith, held, same))
     ]
 handle_before core (enter worker id) due j held = inl (let same = same_if (not (has (stack_of core.world worker) id)) in omega (arith, held, same))

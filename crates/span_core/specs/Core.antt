@@ -1,26 +1,23 @@
 -- What contracts see of a core, and what a call does to it: it is accepted as one step, or refused and changes
 -- nothing but how often the outlet lacked a place.
-use Rattle.std.specs.Prelude.{◌≡◌, ℕ, ◌-◌, ◌^◌, Bool, true, false, ◌&&◌, ◌||◌, nat_lt, List, [], ◌∷◌, ◌++◌, length, Option, Some, None, is_some}
+use Rattle.std.specs.Prelude.{◌≡◌, ℕ, ◌-◌, ◌^◌, Bool, true, ◌&&◌, ◌||◌, not, if◌then◌else◌, nat_lt, List, [], ◌∷◌, ◌++◌, length, Option, Some, None, is_some}
 use Rattle.std.specs.List.{list_all}
 use Rattle.span_id.specs.declared.fault.Fault.{Fault}
-use Rattle.span_id.specs.declared.fault.Fault.TheVariants.{Unknown, CountFull, Full, NotEntered, TooManyLayers, BadName, Backlog, BadLimits, Memory}
+use Rattle.span_id.specs.declared.fault.Fault.TheVariants.{Unknown, CountFull, Full, NotEntered, BadName, Backlog, Memory}
 use Rattle.span_id.specs.declared.limits.Limits.{Limits}
 use Rattle.span_id.specs.Name.{is_name}
 use Rattle.span_id.specs.Meta.{KeyValue}
 use Rattle.span_layers.specs.Note.{PlainNote}
 use Rattle.span_layers.specs.Filter.{Filter}
 use Rattle.span_layers.specs.declared.form.Form.{Form}
-use Rattle.span_forest.specs.declared.span.Holder.TheVariants.{Handle}
-use Rattle.span_forest.specs.Spans.{Spans, find}
+use Rattle.span_forest.specs.Spans.{Spans}
 use Rattle.span_forest.specs.Count.{reference_count}
-use Rattle.span_forest.specs.Holders.{held_in}
 use Rattle.span_stack.specs.Stack.{has}
 use Rattle.span_core.specs.World.{World, stack_of}
-use Rattle.span_core.specs.Parent.{parent_named}
-use Rattle.span_outlet.specs.Request.{Request, new_span, clone_span, enter, exit, try_close, record_fields, event, Answer}
+use Rattle.span_outlet.specs.Request.{Request, new_span, clone_span, enter, record_fields, event, Answer}
 use Rattle.span_outlet.specs.Batch.{PlainBatch}
 use Rattle.span_outlet.specs.Outlet.{RingName, one_more}
-use Rattle.span_core.specs.Step.{IsStep, is_wanted_meta, is_open, is_open_parent}
+use Rattle.span_core.specs.Step.{IsStep, is_wanted_call, is_known, is_inside}
 use Rattle.span_core.specs.History.{issued}
 use Rattle.span_core.specs.NextId.{next_id_after}
 
@@ -48,25 +45,6 @@ is_named (new_span worker meta fields parent) = is_name meta.name && are_keys fi
 is_named (record_fields worker id fields) = are_keys fields
 is_named (event worker meta message fields parent) = is_name meta.name && are_keys fields
 is_named _ = true
-
--- a new span is wanted
-abbrev pub is_wanted_call : CoreView → Request → Bool
-is_wanted_call core (new_span worker meta fields parent) = is_wanted_meta core.rules meta
-is_wanted_call core _ = true
-
--- the span is open and has a handle
-abbrev pub has_handle : Spans → ℕ → Bool
-has_handle spans id = nat_lt 0 (held_in Handle (find spans id))
-
--- what the call names is there: a parent and the span of an exit are open, the span of any other call has a handle
-abbrev pub is_known : CoreView → Request → Bool
-is_known core (new_span worker meta fields parent) = is_open_parent core.world.spans parent
-is_known core (clone_span worker id) = has_handle core.world.spans id
-is_known core (enter worker id) = has_handle core.world.spans id
-is_known core (exit worker id) = is_open core.world.spans id
-is_known core (try_close worker id) = has_handle core.world.spans id
-is_known core (record_fields worker id fields) = has_handle core.world.spans id
-is_known core (event worker meta message fields parent) = is_open_parent core.world.spans (parent_named parent)
 
 -- the count of a span is below its greatest value
 abbrev pub is_below_max : ℕ → Spans → ℕ → Bool
@@ -100,42 +78,36 @@ abbrev pub has_slot : CoreView → Request → Bool
 has_slot core (new_span worker meta fields parent) = is_some (id_after core)
 has_slot core _ = true
 
--- the span of an exit stands in the caller's stack
-abbrev pub is_inside : CoreView → Request → Bool
-is_inside core (exit worker id) = has (stack_of core.world worker) id
-is_inside core _ = true
+-- ---- how a call is judged
+
+-- what a core says of a call by itself: it refuses it for a fault, no layer wants the span, or the call is due
+pub data Judgement : Type 0 where
+  refuses : Fault → Judgement
+  unwanted : Judgement
+  due : Judgement
+
+-- A call is judged by the first of these tests that fails, in this order; it is due where none does.
+abbrev pub judged : CoreView → Request → Judgement
+judged core request =
+    if not (is_named request) then refuses BadName else
+    (if not (is_wanted_call core.rules request) then unwanted else
+    (if not (is_known core.world.spans request) then refuses Unknown else
+    (if not (may_count core request && may_send core) then refuses CountFull else
+    (if not (has_slot core request) then refuses Full else
+    (if not (is_inside core.world request) then refuses NotEntered else
+    due)))))
+
+-- nothing that the core itself decides stands against the call
+abbrev pub IsDue : CoreView → Request → Type 0
+IsDue core request = judged core request ≡ due
 
 -- ---- what the calls' contracts say of a call
 
--- Nothing that the core itself decides stands against the call. A call is judged in this order.
-pub record IsDue (core : CoreView) (request : Request) : Type 0 where
-  pub named : is_named request ≡ true
-  pub wanted : is_wanted_call core request ≡ true
-  pub known : is_known core request ≡ true
-  pub counts : (may_count core request && may_send core) ≡ true
-  pub slot : has_slot core request ≡ true
-  pub inside : is_inside core request ≡ true
-
--- Why a call is refused: the first of these conditions that doesn't hold; else the outlet had no place,
--- or memory was refused.
+-- why a call is refused: the core judged so; or the call was due, and the outlet had no place or memory was refused
 abbrev pub WhyRefused : CoreView → Request → Fault → Type 0
-WhyRefused core request BadName = is_named request ≡ false
-WhyRefused core request Unknown =
-    (is_named request ≡ true) × (is_wanted_call core request ≡ true)
-    × (is_known core request ≡ false)
-WhyRefused core request CountFull =
-    (is_named request ≡ true) × (is_wanted_call core request ≡ true) × (is_known core request ≡ true)
-    × ((may_count core request && may_send core) ≡ false)
-WhyRefused core request Full =
-    (is_named request ≡ true) × (is_wanted_call core request ≡ true) × (is_known core request ≡ true)
-    × ((may_count core request && may_send core) ≡ true) × (has_slot core request ≡ false)
-WhyRefused core request NotEntered =
-    (is_named request ≡ true) × (is_known core request ≡ true)
-    × ((may_count core request && may_send core) ≡ true) × (is_inside core request ≡ false)
 WhyRefused core request Backlog = IsDue core request
 WhyRefused core request Memory = IsDue core request
-WhyRefused core request TooManyLayers = ⊥
-WhyRefused core request BadLimits = ⊥
+WhyRefused core request fault = judged core request ≡ refuses fault
 
 -- the two refusals that the outlet and memory decide
 abbrev pub IsLate : Fault → Type 0
@@ -165,8 +137,7 @@ pub record IsAccepted (old : CoreView) (request : Request) (answer : Answer) (ne
   pub forms : new.forms ≡ old.forms
   pub name : new.name ≡ old.name
 
--- a span was not wanted: its name and keys are names, no layer admits it, and nothing changed
+-- a span was not wanted: the core judged so, and nothing changed
 pub record IsNotWanted (old : CoreView) (request : Request) (new : CoreView) : Type 0 where
-  pub named : is_named request ≡ true
-  pub not_wanted : is_wanted_call old request ≡ false
+  pub not_wanted : judged old request ≡ unwanted
   pub same : new ≡ old

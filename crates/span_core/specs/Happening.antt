@@ -7,7 +7,7 @@ use Rattle.span_id.specs.declared.level.Level.{Level}
 use Rattle.span_layers.specs.declared.note.Kind.{Kind}
 use Rattle.span_layers.specs.declared.note.Kind.TheVariants.{OnNew, OnRecord, OnEvent, OnEnter, OnExit, OnClose}
 use Rattle.span_id.specs.Meta.{KeyValue, PlainMeta}
-use Rattle.span_layers.specs.Note.{Told, PlainNote}
+use Rattle.span_layers.specs.Note.{EventText, PlainNote}
 use Rattle.span_layers.specs.Filter.{Filter, layer_wants, admission_set}
 use Rattle.span_forest.specs.Spans.{Spans, find}
 use Rattle.span_forest.specs.Path.{path, path_text}
@@ -32,7 +32,7 @@ pub record Happening : Type 0 where
   pub kind : Kind
   pub admitted : ℕ
   pub fields : List KeyValue
-  pub tail : Option Told
+  pub event : Option EventText
   pub place : ℕ → Option ℕ
   pub spans : Spans
 
@@ -42,7 +42,7 @@ at_span spans kind id fields = record {
   kind = kind;
   admitted = bits_in spans id;
   fields = fields;
-  tail = None;
+  event = None;
   place = λ layer. Some id;
   spans = spans;
 }
@@ -61,7 +61,7 @@ event_at spans stack admitted level message fields = record {
   kind = OnEvent;
   admitted = admitted;
   fields = fields;
-  tail = Some (level, message);
+  event = Some (record { level = level; message = message });
   place = contextual_span spans stack;
   spans = spans;
 }
@@ -108,7 +108,7 @@ note_of worker what layer = record {
   id = unwrap_or (what.place layer) 0;
   path = path_text (path_at layer what.spans (what.place layer));
   fields = what.fields;
-  tail = what.tail;
+  event = what.event;
 }
 
 -- one note for each layer that is told

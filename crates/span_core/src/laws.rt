@@ -3,7 +3,7 @@ ghost use Rattle.std.specs.Prelude.{◌≡◌, ◌≢◌, ◌≤◌, ◌<◌, �
 ghost use Rattle.span_id.specs.Id.{slot_of, IsId};
 ghost use Rattle.span_id.specs.Meta.{KeyValue, PlainMeta};
 ghost use Rattle.span_layers.specs.Filter.{Filter, admission_set};
-ghost use Rattle.span_forest.specs.Node.{Node};
+ghost use Rattle.span_forest.specs.Node.{Node, new_node};
 ghost use Rattle.span_forest.specs.Spans.{find, IsOpen, parent_of};
 ghost use Rattle.span_forest.specs.declared.span.Holder.TheVariants.{Handle};
 ghost use Rattle.span_forest.specs.Count.{reference_count, total_held, total_handles};
@@ -17,7 +17,6 @@ ghost use Rattle.span_outlet.specs.Batch.{PlainBatch};
 ghost use Rattle.span_core.specs.World.{World, IsWorld, entries_in};
 ghost use Rattle.span_outlet.specs.Request.{Request, new_span, exit, try_close, Answer, made, exited, released};
 ghost use Rattle.span_core.specs.Core.{CoreView, IsAccepted};
-ghost use Rattle.span_core.specs.Step.{made_node};
 ghost use Rattle.span_core.specs.History.{issued, IsLegal};
 ghost use Rattle.span_core.specs.NextId.{next_id_after, is_used_up};
 ghost use Rattle.span_core.specs.Handles.{handles_given_out, handles_given_back};
@@ -25,8 +24,10 @@ ghost use Rattle.span_core.specs.ClosedSpans.{closed_by, closed_in, gives_back, 
 ghost use Rattle.span_core.specs.GivenBack.{ClosesWhatNothingHolds};
 
 pub mod outcome;
+mod sent;
 
 use crate::Core;
+use crate::laws::sent::what_was_sent_is_legal;
 use span_forest::laws::{
     a_span_closes_with_the_last_that_keeps_it, each_slot_has_one_open_id,
     full_where_each_slot_is_used_up as full_where_no_slot_is_left,
@@ -41,7 +42,7 @@ pub fn open_spans_are_a_live_forest<O: Outlet, A>(core: &Core<O, A>)
     ensures forest { IsForest core.now.world.spans }
     ensures live { (id : ℕ) → IsOpen core.now.world.spans id → is_live core.now.world.spans id ≡ true }
 {
-    core.calls();
+    what_was_sent_is_legal(core);
 }
 
 /// No count is above the greatest one, whatever the id, and at most 2^64 - 1 calls were accepted.
@@ -50,7 +51,7 @@ pub fn counts_and_calls_have_bounds<O: Outlet, A>(core: &Core<O, A>)
     ensures calls { length core.now.sent < 2 ^ 64 }
 {
     open_spans_are_counted(&core.forest);
-    core.calls();
+    what_was_sent_is_legal(core);
 }
 
 /// The entries of each span are the workers that are inside it, each counted once.
@@ -66,7 +67,7 @@ pub fn entries_are_counted_once<O: Outlet, A>(core: &Core<O, A>)
         ≡ total_held core.now.world.spans }
 {
     entries_are_the_workers_inside(core);
-    core.calls();
+    what_was_sent_is_legal(core);
 }
 
 /// Where the total of handles and entries is 0, no span is open. The same where no span has a handle and no
@@ -80,7 +81,7 @@ pub fn empty_where_nothing_is_held<O: Outlet, A>(core: &Core<O, A>)
 {
     entries_are_the_workers_inside(core);
     entries_are_counted_once(core);
-    core.calls();
+    what_was_sent_is_legal(core);
 }
 
 /// Whichever call is accepted next: it closes exactly the spans that its answer lists, which only an exit and
@@ -109,7 +110,7 @@ pub fn release_closes_what_nothing_holds<O: Outlet, A>(core: &Core<O, A>)
         AllPairs (λ first later. parent_of core.now.world.spans later ≢ Some first) (closed_by answer) }
 {
     entries_are_the_workers_inside(core);
-    core.calls();
+    what_was_sent_is_legal(core);
 }
 
 /// Whichever call is accepted next: each span that closes is announced once to every layer that admits the
@@ -121,7 +122,7 @@ pub fn closes_are_announced_once<O: Outlet, A>(core: &Core<O, A>)
         ≡ (if stands_in id (closed_by answer) && hears_close core.now.rules core.now.world.spans layer id
         then 1 else 0) }
 {
-    core.calls();
+    what_was_sent_is_legal(core);
 }
 
 /// Whichever call is accepted next: where it gives a holder back, it closes exactly the spans that nothing holds any
@@ -133,7 +134,7 @@ pub fn accepted_releases_close_what_nothing_holds<O: Outlet, A>(core: &Core<O, A
 {
     entries_are_the_workers_inside(core);
     closes_are_announced_once(core);
-    core.calls();
+    what_was_sent_is_legal(core);
 }
 
 /// What a release or an exit promises leaves no choice: the spans that may be left are the same.
@@ -149,7 +150,7 @@ pub fn no_close_is_told_twice<O: Outlet, A>(core: &Core<O, A>)
     ensures { (layer id : ℕ) → count_by (tells_close layer id) (notes_in core.now.sent)
         ≤ (if stands_in id (closed_in core.now.sent) then 1 else 0) }
 {
-    core.calls();
+    what_was_sent_is_legal(core);
 }
 
 /// The open spans are those whose id was issued and that didn't close. No id was issued twice. So a span that
@@ -161,14 +162,14 @@ pub fn open_spans_were_made_and_not_closed<O: Outlet, A>(core: &Core<O, A>)
     ensures closed { (id : ℕ) → IsTrue (stands_in id (closed_in core.now.sent)) →
         find core.now.world.spans id ≡ None }
 {
-    core.calls();
+    what_was_sent_is_legal(core);
 }
 
 /// As many spans are open as were made and didn't close.
 pub fn made_spans_are_open_or_closed<O: Outlet, A>(core: &Core<O, A>)
     ensures { length (issued core.now.sent) ≡ length (closed_in core.now.sent) + length core.now.world.spans }
 {
-    core.calls();
+    what_was_sent_is_legal(core);
 }
 
 /// Whichever release or exit is accepted next: where it closes any span, it closes the one that it names.
@@ -181,20 +182,21 @@ pub fn the_named_span_closes_first<O: Outlet, A>(core: &Core<O, A>)
         (IsTrue (nat_lt 0 (length closed)) ↔ (find new.world.spans id ≡ None)) }
 {
     entries_are_the_workers_inside(core);
-    core.calls();
+    what_was_sent_is_legal(core);
 }
 
 /// Whichever new span is accepted next: its id finds it, and every other id finds what it found before.
 pub fn new_id_finds_its_span<O: Outlet, A>(core: &Core<O, A>)
     ensures new { (worker id : ℕ) (meta : PlainMeta) (fields : List KeyValue) (parent : Option ℕ) (new : CoreView) →
         IsAccepted core.now (new_span worker meta fields parent) (made id) new →
-        find new.world.spans id ≡ Some (made_node core.now.rules meta fields parent) }
+        find new.world.spans id
+        ≡ Some (new_node meta fields parent (admission_set core.now.rules meta.target meta.level)) }
     ensures others { (worker id other : ℕ) (meta : PlainMeta) (fields : List KeyValue) (parent : Option ℕ)
         (new : CoreView) →
         IsAccepted core.now (new_span worker meta fields parent) (made id) new → other ≢ id →
         find new.world.spans other ≡ find core.now.world.spans other }
 {
-    core.calls();
+    what_was_sent_is_legal(core);
 }
 
 /// Whichever call is accepted next: a new span and one more handle make the handles of all spans one more, a handle
@@ -205,7 +207,7 @@ pub fn handles_follow_the_calls<O: Outlet, A>(core: &Core<O, A>)
         total_handles new.world.spans + handles_given_back request
         ≡ total_handles core.now.world.spans + handles_given_out request }
 {
-    core.calls();
+    what_was_sent_is_legal(core);
 }
 
 /// There is no id for a new span exactly where each slot is used up: an open span has it, or the id of its last
@@ -224,7 +226,7 @@ pub fn layers_admit_spans_by_their_rules<O: Outlet, A>(core: &Core<O, A>)
     ensures { (id : ℕ) (node : Node) → find core.now.world.spans id ≡ Some node →
         node.bits ≡ admission_set core.now.rules node.target node.level }
 {
-    core.calls();
+    what_was_sent_is_legal(core);
 }
 
 /// No two open ids have one slot. Each is in the layout of ids, and its slot is below the number of slots.
@@ -255,7 +257,7 @@ pub fn a_span_is_open_as_long_as_something_keeps_it<O: Outlet, A>(core: &Core<O,
         IsAccepted core.now request answer new → IsOpen core.now.world.spans id →
         (IsTrue (stands_in id (closed_by answer)) ↔ (what_holds new.world.spans id ≡ [])) }
 {
-    core.calls();
+    what_was_sent_is_legal(core);
     entries_are_the_workers_inside(core);
     open_spans_are_kept_open(&core.forest);
     a_span_closes_with_the_last_that_keeps_it(&core.forest);

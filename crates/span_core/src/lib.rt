@@ -8,7 +8,7 @@ ghost use Rattle.span_forest.specs.Node.{node_of};
 ghost use Rattle.span_forest.specs.Spans.{find, IsOpen, WhyNotFound};
 ghost use Rattle.span_forest.specs.declared.span.Holder.TheVariants.{Entry};
 ghost use Rattle.span_forest.specs.Holders.{held_in};
-ghost use Rattle.span_forest.specs.Holding.{open_ids, held_spans, what_holds};
+ghost use Rattle.span_forest.specs.Holding.{all_ids, held_spans, what_holds};
 ghost use Rattle.span_forest.specs.Count.{total_held, total_handles, reference_count};
 ghost use Rattle.span_core.specs.World.{empty_world, stack_of, entries_in, workers_with, IsCounted};
 ghost use Rattle.span_core.specs.History.{issued, IsLegal};
@@ -184,7 +184,7 @@ impl<O: Outlet, A> Core<O, A> {
 
     /// The ids of the open spans, by ascending slot. The only error is `Memory`.
     pub fn open_spans(&self) -> Result<Vec<Id>, Fault>
-        ensures ids { IfOk result (λ ids. ids.items ≡ open_ids self.now.world.spans) }
+        ensures ids { IfOk result (λ ids. ids.items ≡ all_ids self.now.world.spans) }
         ensures memory { IfErr result (λ fault. fault ≡ Fault.Memory) }
     {
         self.forest.open_spans()

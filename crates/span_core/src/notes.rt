@@ -1,15 +1,15 @@
 //! The notes that the layers are told of what happens.
-ghost use Rattle.std.specs.Prelude.{◌≡◌, ◌<◌, ◌++◌, ◌∷◌, [], if◌then◌else◌, map, flat_map, length, IfOk, OnOk, IfErr, Some};
+ghost use Rattle.std.specs.Prelude.{◌≡◌, ◌<◌, ◌++◌, ◌∷◌, [], if◌then◌else◌, map, flat_map, length, IfOk, OnOk, IfErr, IfSome, Some};
 ghost use Rattle.std.specs.Arc.{arc_str_bytes};
 ghost use Rattle.span_layers.specs.declared.note.Kind.TheVariants.{OnExit};
-ghost use Rattle.span_layers.specs.Note.{plain_note, told_of};
+ghost use Rattle.span_layers.specs.Note.{plain_note, plain_event};
 ghost use Rattle.span_forest.specs.Node.{node_of};
 ghost use Rattle.span_forest.specs.Spans.{IsOpen, find};
 ghost use Rattle.span_forest.specs.Path.{path_text};
 ghost use Rattle.span_outlet.specs.Request.{record_fields, request_of};
 ghost use Rattle.span_core.specs.Happening.{at_span, close_of, bits_in, notes_of, notes_of_all, path_at};
 ghost use Rattle.span_core.specs.inside.ClosingPaths.{IsChain};
-ghost use Rattle.span_core.specs.inside.Telling.{id_told, place_told, tail_told, text_told, told_to, IsSummarised, IsThere, IsReadable, notes_told, Knows};
+ghost use Rattle.span_core.specs.inside.Telling.{id_told, place_told, event_said, text_told, told_to, IsSummarised, IsAt, IsThere, IsReadable, notes_told, Knows};
 ghost use Rattle.span_core.specs.inside.Remembering.{Remembers};
 
 pub(crate) mod closing;
@@ -29,13 +29,15 @@ use span_layers::{Kind, Note, Rules};
 use span_outlet::Call;
 use std::sync::ArcStr;
 
-/// What happened to a span: which worker caused it, its kind, the span, and the layers that admit the span.
+/// What happened to a span: which worker caused it, its kind, the span, and the layers that admit the span; and the span as
+/// the call found it, where it has that in hand.
 #[derive(Clone, Copy)]
-pub(crate) struct Happening {
+pub(crate) struct Happening<'a> {
     pub(crate) worker: u32,
     pub(crate) kind: Kind,
     pub(crate) id: Id,
     pub(crate) bits: Bits,
+    pub(crate) seen: Option<&'a Span>,
 }
 
 /// A span as a call found it: which worker calls, the span's id, and the span. So nothing of it is looked up anew, neither
@@ -67,8 +69,11 @@ pub(crate) struct Telling<'a> {
 /// What the layers are told of.
 #[derive(Clone, Copy)]
 pub(crate) enum Subject<'a> {
-    /// A span that is open.
-    Span(Id),
+    /// A span that is open, as the call found it, where it has that in hand.
+    Span {
+        id: Id,
+        seen: Option<&'a Span>,
+    },
     /// A span that is to be made.
     NewSpan {
         id: Id,
@@ -89,7 +94,7 @@ fn place_of(forest: &Forest, subject: &Subject<'_>, layer: u32, in_vain: &mut u6
     ensures { result ≡ place_told forest.now.spans subject.now layer }
 {
     match subject {
-        Subject::Span(id) => Some(*id),
+        Subject::Span { id, .. } => Some(*id),
         Subject::NewSpan { parent, .. } => *parent,
         Subject::Event { around, .. } => span_seen(forest, around, layer, in_vain),
     }
@@ -126,14 +131,14 @@ fn path_of(
 {
     match subject {
         Subject::NewSpan { name, .. } => new_text(recent, forest, paths, layer, place, name),
-        Subject::Span(_) => seen_text(recent, forest, paths, layer, place),
-        Subject::Event { .. } => seen_text(recent, forest, paths, layer, place),
+        Subject::Span { seen, .. } => seen_text(recent, forest, paths, layer, place, *seen),
+        Subject::Event { .. } => seen_text(recent, forest, paths, layer, place, None),
     }
 }
 
-// An event's level and its message.
-fn tail(subject: &Subject<'_>) -> Result<Option<(Level, ArcStr)>, Fault>
-    ensures tail { IfOk result (λ tail. told_of arc_str_bytes tail ≡ tail_told subject.now) }
+// What an event says: its level and its message.
+fn event_said(subject: &Subject<'_>) -> Result<Option<(Level, ArcStr)>, Fault>
+    ensures said { IfOk result (λ event. plain_event arc_str_bytes event ≡ event_said subject.now) }
     ensures memory { IfErr result (λ fault. fault ≡ Fault.Memory) }
 {
     match subject {
@@ -165,7 +170,7 @@ fn note(
     let place = place_of(forest, &what.subject, layer, &mut recent.in_vain);
     let path = path_of(recent, forest, &what.subject, paths, layer, &place)?;
     let fields = what.fields.share()?;
-    let tail = tail(&what.subject)?;
+    let event = event_said(&what.subject)?;
     Ok(Note {
         layer,
         kind: what.kind,
@@ -173,7 +178,7 @@ fn note(
         id: id_of(&what.subject, &place),
         path,
         fields,
-        tail,
+        event,
     })
 }
 
@@ -256,11 +261,12 @@ pub(crate) fn span_notes(
     recent: &mut Recent,
     rules: &Rules,
     forest: &Forest,
-    what: &Happening,
+    what: &Happening<'_>,
     fields: &Fields,
 ) -> Result<Vec<Note>, Fault>
     requires open { IsOpen forest.now.spans what.now.id }
     requires bits { what.now.bits.0 ≡ bits_in forest.now.spans what.now.id }
+    requires seen { IfSome what.now.seen (IsAt forest.now.spans (Some what.now.id)) }
     requires remembers { Remembers forest.now recent.old.paths }
     ensures notes { IfOk result (λ notes. map plain_note notes.items ≡ notes_of rules.now what.now.worker
         (at_span forest.now.spans what.now.kind what.now.id fields.now)) }
@@ -272,7 +278,10 @@ pub(crate) fn span_notes(
         kind: what.kind,
         bits: what.bits,
         fields,
-        subject: Subject::Span(what.id),
+        subject: Subject::Span {
+            id: what.id,
+            seen: what.seen,
+        },
     };
     told(recent, rules, forest, &what)
 }
@@ -284,11 +293,12 @@ pub(crate) fn push_notes(
     paths: &mut ToldPaths,
     rules: &Rules,
     forest: &Forest,
-    what: &Happening,
+    what: &Happening<'_>,
     fields: &Fields,
 ) -> Result<(), Fault>
     requires open { IsOpen forest.now.spans what.now.id }
     requires bits { what.now.bits.0 ≡ bits_in forest.now.spans what.now.id }
+    requires seen { IfSome what.now.seen (IsAt forest.now.spans (Some what.now.id)) }
     requires known { Knows path_text forest.now.spans paths.old }
     requires remembers { Remembers forest.now recent.old.paths }
     ensures notes { OnOk result (map plain_note notes.new.items ≡ map plain_note notes.old.items
@@ -303,7 +313,10 @@ pub(crate) fn push_notes(
         kind: what.kind,
         bits: what.bits,
         fields,
-        subject: Subject::Span(what.id),
+        subject: Subject::Span {
+            id: what.id,
+            seen: what.seen,
+        },
     };
     push_told(recent, notes, paths, rules, forest, &what)
 }
@@ -313,11 +326,12 @@ pub(crate) fn record_told(
     recent: &mut Recent,
     rules: &Rules,
     forest: &Forest,
-    what: &Happening,
+    what: &Happening<'_>,
     fields: &Fields,
 ) -> Result<Announced, Fault>
     requires open { IsOpen forest.now.spans what.now.id }
     requires bits { what.now.bits.0 ≡ bits_in forest.now.spans what.now.id }
+    requires seen { IfSome what.now.seen (IsAt forest.now.spans (Some what.now.id)) }
     requires remembers { Remembers forest.now recent.old.paths }
     ensures call { IfOk result (λ told. request_of told.call
         ≡ record_fields what.now.worker what.now.id fields.now) }
@@ -360,6 +374,7 @@ pub(crate) fn exit_notes<'a>(
         kind: Kind::OnExit,
         id: exit.id,
         bits: exit.span.bits,
+        seen: Some(exit.span),
     };
     let none = Fields::none();
     if closing.is_empty() {

@@ -1,7 +1,6 @@
 -- A new span under a parent that isn't open is refused alike, whichever such parent it is.
 use Rattle.std.proofs.Common.{◌≡◌, ℕ, ◌∙◌, Bool, true, false, List, Some, sym, subst, refl}
 use Rattle.std.proofs.lemmas.Bool.{true≢false}
-use Rattle.span_id.specs.declared.fault.Fault.{Fault}
 use Rattle.span_id.specs.declared.fault.Fault.TheVariants.{Unknown, CountFull, Full, NotEntered, TooManyLayers, BadName, Backlog, BadLimits, Memory}
 use Rattle.span_id.specs.Meta.{PlainMeta, KeyValue}
 use Rattle.span_outlet.specs.declared.batch.ParentOf.{ParentOf}
@@ -9,7 +8,8 @@ use Rattle.span_outlet.specs.declared.batch.ParentOf.TheVariants.{Root, Current,
 use Rattle.span_outlet.specs.Request.{Request, new_span}
 use Rattle.span_core.specs.Step.{is_open}
 use Rattle.span_core.specs.Parent.{parent_found}
-use Rattle.span_core.specs.Core.{CoreView, WhyRefused}
+use Rattle.span_core.specs.Core.{CoreView, judged}
+use Rattle.span_core.proofs.Judging.{judged_alike, why_alike}
 use Rattle.span_border.specs.declared.status.Status.{Status}
 use Rattle.span_border.specs.declared.status.Status.TheVariants.{Done, Refused, BadData, EmptyHandle, HandleInUse, NoSuchWorker, NoLine, ShortBuffer, NoSuchCallsite}
 use Rattle.span_ffi.specs.Data.{said_parent}
@@ -21,23 +21,15 @@ module _ (old new : CoreView) (worker : ℕ) (meta : PlainMeta) (fields : List K
   abbrev under : ℕ → Request
   under id = new_span worker meta fields (Some id)
 
-  why_alike : (fault : Fault) → WhyRefused old (under a) fault → WhyRefused old (under b) fault
-  why_alike Unknown why = (why.0, why.1, closed')
-  why_alike CountFull why = absurd (true≢false (sym why.2 ∙ closed))
-  why_alike Full why = absurd (true≢false (sym why.2 ∙ closed))
-  why_alike NotEntered why = absurd (true≢false (sym why.1 ∙ closed))
-  why_alike TooManyLayers why = absurd why
-  why_alike BadName why = why
-  why_alike Backlog why = absurd (true≢false (sym why.known ∙ closed))
-  why_alike BadLimits why = absurd why
-  why_alike Memory why = absurd (true≢false (sym why.known ∙ closed))
+  same_judgement : judged old (under a) ≡ judged old (under b)
+  same_judgement = judged_alike old (under a) (under b) refl refl closed closed'
 
   closed_alike : (made : ℕ) (status : Status) → IsMadeOrRefused (under a) made old status new → IsMadeOrRefused (under b) made old status new
   closed_alike made Done is = (
-    λ none. let unwanted = is.0 none in record { named = unwanted.named; not_wanted = unwanted.not_wanted; same = unwanted.same },
-    λ some. absurd (true≢false (sym (is.1 some).0.due.known ∙ closed)),
+    λ none. let unwanted = is.0 none in record { not_wanted = sym same_judgement ∙ unwanted.not_wanted; same = unwanted.same },
+    λ some. absurd (true≢false (sym (is.1 some).0.step.changes.known ∙ closed)),
   )
-  closed_alike made (Refused fault) is = record { why = why_alike fault is.why; unchanged = is.unchanged }
+  closed_alike made (Refused fault) is = record { why = why_alike old (under a) (under b) fault same_judgement is.why; unchanged = is.unchanged }
   closed_alike made BadData is = absurd is
   closed_alike made EmptyHandle is = absurd is
   closed_alike made HandleInUse is = absurd is

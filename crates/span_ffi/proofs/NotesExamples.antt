@@ -19,11 +19,11 @@ event = record {
   id = 5;
   path = codes "ab:c";
   fields = (codes "k", codes "vv") ∷ [];
-  tail = Some (Warn, codes "hi");
+  event = Some (record { level = Warn; message = codes "hi" });
 }
 
 abbrev exit : PlainNote
-exit = record { layer = 0; kind = OnExit; worker = 3; id = 5; path = codes "ab"; fields = []; tail = None }
+exit = record { layer = 0; kind = OnExit; worker = 3; id = 5; path = codes "ab"; fields = []; event = None }
 
 abbrev numbers : SpanNote
 numbers = record { batch = 7; id = 5; layer = 2; kind = 2; worker = 1; level = 1; path_len = 4; message_len = 2 }
@@ -60,14 +60,18 @@ of_another_batch : TellsNote 8 event numbers (fields_in (field ∷ []) (field �
 of_another_batch tells = let batch : 7 ≡ 8 = ap (λ (note : SpanNote). note.batch) tells.1 in absurd (omega (arith, batch))
 
 short_of_a_byte : TellsNote 7 event numbers (fields_in (field ∷ []) (field ∷ []) 1) (bytes_in (codes "........") (codes "........") 9) ShortBuffer
-short_of_a_byte = (refl, refl, refl, λ fit. let bytes : 9 ≤ 8 = fit.1 in absurd (omega arith))
+short_of_a_byte = (refl, refl, refl, refl, λ fit. let bytes : 9 ≤ 8 = fit.1 in absurd (omega arith))
+
+-- its numbers are told all the same
+short_of_another_batch : TellsNote 8 event numbers (fields_in (field ∷ []) (field ∷ []) 1) (bytes_in (codes "........") (codes "........") 9) ShortBuffer → ⊥
+short_of_another_batch tells = let batch : 7 ≡ 8 = ap (λ (note : SpanNote). note.batch) tells.1 in absurd (omega (arith, batch))
 
 short_with_room : TellsNote 7 event numbers (fields_in (field ∷ []) (field ∷ []) 1) (bytes_in (codes ".........") (codes ".........") 9) ShortBuffer → ⊥
-short_with_room tells = tells.3 (omega arith, omega arith)
+short_with_room tells = tells.4 (omega arith, omega arith)
 
 -- how many bytes there is room for isn't told
 room_for_length : TellsNote 7 event numbers (fields_in [] [] 1) (bytes_in (codes "...") (codes "...") 3) ShortBuffer → ⊥
-room_for_length tells = let bytes : 3 ≡ 9 = tells.2 in absurd (omega (arith, bytes))
+room_for_length tells = let bytes : 3 ≡ 9 = tells.3 in absurd (omega (arith, bytes))
 
 too_long_for_nothing : TellsNote 7 event numbers (fields_in [] [] 0) (bytes_in [] [] 0) (Refused CountFull) → ⊥
 too_long_for_nothing tells = cc

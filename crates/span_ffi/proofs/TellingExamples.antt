@@ -11,7 +11,7 @@ use Rattle.span_id.specs.declared.level.Level.{Level}
 use Rattle.span_id.specs.declared.level.Level.TheVariants.{Error, Warn, Info, Debug, Trace}
 use Rattle.span_id.specs.Level.{verbosity}
 use Rattle.span_layers.specs.Rule.{is_admitted}
-use Rattle.span_core.specs.Core.{CoreView}
+use Rattle.span_core.specs.Core.{CoreView, due, refuses}
 use Rattle.span_core.specs.Step.{is_wanted_meta}
 use Rattle.span_core.specs.Wanted.{IsMaxLevel}
 use Rattle.span_border.specs.declared.status.Status.TheVariants.{Done, Refused, BadData, NoSuchWorker}
@@ -211,11 +211,14 @@ data_of_a_record = refl
 
 -- the span that follows isn't open, and the one that is followed is
 follower_unknown : FollowsFrom 0 9 5 (core ((5, root) ∷ [])) (Refused Unknown) (core ((5, root) ∷ []))
-follower_unknown = (tt, (omega arith, record { why = (refl, refl, refl); unchanged = refl }))
+follower_unknown = (tt, (omega arith, record { why = refl; unchanged = refl }))
+
+never_unknown : due ≡ refuses Unknown → ⊥
+never_unknown is = cc
 
 -- the one that is followed may have closed
 followed_unknown : FollowsFrom 0 5 7 (core ((5, root) ∷ [])) (Refused Unknown) (core ((5, root) ∷ [])) → ⊥
-followed_unknown answers = true≢false answers.1.1.why.2
+followed_unknown answers = never_unknown answers.1.1.why
 
 -- a number can't be bad
 no_bad_number : FollowsFrom 0 9 7 (core []) BadData (core []) → ⊥

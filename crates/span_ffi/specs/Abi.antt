@@ -4,7 +4,7 @@ use Rattle.span_ffi.specs.declared.data.SpanSizes.{SpanSizes}
 
 -- the version of the interface
 abbrev pub abi_version : ℕ
-abi_version = 2
+abi_version = 3
 
 -- the sizes of the structs, as C lays them out
 abbrev pub struct_sizes : SpanSizes

@@ -3,7 +3,7 @@ use Rattle.std.specs.Prelude.{◌≡◌, ℕ, List, map, None}
 use Rattle.span_id.specs.declared.fault.Fault.TheVariants.{Unknown, Memory}
 use Rattle.span_forest.specs.declared.holding.Held.{Held}
 use Rattle.span_forest.specs.Spans.{find, IsOpen}
-use Rattle.span_forest.specs.Holding.{open_ids, what_holds}
+use Rattle.span_forest.specs.Holding.{all_ids, what_holds}
 use Rattle.span_core.specs.World.{workers_with}
 use Rattle.span_core.specs.Core.{CoreView}
 use Rattle.span_ffi.specs.declared.data.SpanHeld.{SpanHeld}
@@ -29,7 +29,7 @@ TellsOf id things into into' len old status new =
 
 -- the ids of the open spans
 abbrev pub TellsOpen : List ℕ → List ℕ → ℕ → CoreView → Status → CoreView → Type 0
-TellsOpen into into' len old = TellsAll (open_ids old.world.spans) into into' len old
+TellsOpen into into' len old = TellsAll (all_ids old.world.spans) into into' len old
 
 -- what keeps a span open
 abbrev pub TellsHolders : ℕ → List SpanHeld → List SpanHeld → ℕ → CoreView → Status → CoreView → Type 0

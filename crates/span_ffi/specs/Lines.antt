@@ -46,5 +46,5 @@ SkipsBatch skipped old _ new = ⊥
 
 -- how many batches were taken, and how many notes were missed
 abbrev pub CountsLines : ℕ → ℕ → LineReaderView → Status → LineReaderView → Type 0
-CountsLines batches refused old Done new = (batches ≡ length old.taken) × (refused ≡ old.refused) × (new ≡ old)
-CountsLines batches refused old _ new = ⊥
+CountsLines batches missed old Done new = (batches ≡ length old.taken) × (missed ≡ old.missed) × (new ≡ old)
+CountsLines batches missed old _ new = ⊥

@@ -5,7 +5,7 @@ use Rattle.span_id.specs.Level.{verbosity}
 use Rattle.span_id.specs.Meta.{KeyValue}
 use Rattle.span_layers.specs.declared.note.Kind.{Kind}
 use Rattle.span_layers.specs.declared.note.Kind.TheVariants.{OnNew, OnRecord, OnEvent, OnEnter, OnExit, OnClose}
-use Rattle.span_layers.specs.Note.{Told, PlainNote}
+use Rattle.span_layers.specs.Note.{EventText, PlainNote}
 use Rattle.span_outlet.specs.Lines.{PlainLine}
 use Rattle.span_outlet.specs.LineReader.{LineReaderView, IsNoteOf}
 use Rattle.span_border.specs.declared.status.Status.{Status}
@@ -25,14 +25,14 @@ kind_number OnExit = 4
 kind_number OnClose = 5
 
 -- an event's level as a number, 0 of another note
-abbrev pub level_number : Option Told → ℕ
+abbrev pub level_number : Option EventText → ℕ
 level_number None = 0
-level_number (Some told) = verbosity told.0
+level_number (Some event) = verbosity event.level
 
 -- an event's message, nothing of another note
-abbrev pub message_in : Option Told → List ℕ
+abbrev pub message_in : Option EventText → List ℕ
 message_in None = []
-message_in (Some told) = told.1
+message_in (Some event) = event.message
 
 -- a note of the batch of this number, in numbers
 abbrev pub note_numbers : ℕ → PlainNote → SpanNote
@@ -42,25 +42,25 @@ note_numbers batch note = record {
   layer = note.layer;
   kind = kind_number note.kind;
   worker = note.worker;
-  level = level_number note.tail;
+  level = level_number note.event;
   path_len = length note.path;
-  message_len = length (message_in note.tail);
+  message_len = length (message_in note.event);
 }
 
 -- the texts of a note in pairs: its path and its message, and then each key and its value
 abbrev pub note_pairs : PlainNote → List KeyValue
-note_pairs note = (note.path, message_in note.tail) ∷ note.fields
+note_pairs note = (note.path, message_in note.event) ∷ note.fields
 
 -- what is told of a note: its numbers, how long the key and the value of each field are, and its texts one after another;
--- or only how many fields and bytes these are, where a buffer is too short for them; or nothing, where a number is too
--- small
+-- or only its numbers, and how many fields and bytes these are, where a buffer is too short for them; or nothing, where a
+-- number is too small
 abbrev pub TellsNote : ℕ → PlainNote → SpanNote → Filling SpanField → Filling ℕ → Status → Type 0
 TellsNote batch note told fields bytes Done =
     (are_tellable (note_pairs note) ≡ true) × (told ≡ note_numbers batch note)
     × FillsWith (map field_lengths note.fields) fields × FillsWith (packed (note_pairs note)) bytes
 TellsNote batch note told fields bytes ShortBuffer =
-    (are_tellable (note_pairs note) ≡ true) × (fields.len ≡ length note.fields)
-    × (bytes.len ≡ length (packed (note_pairs note)))
+    (are_tellable (note_pairs note) ≡ true) × (told ≡ note_numbers batch note)
+    × (fields.len ≡ length note.fields) × (bytes.len ≡ length (packed (note_pairs note)))
     × ((length note.fields ≤ length fields.old) × (length (packed (note_pairs note)) ≤ length bytes.old) → ⊥)
 TellsNote batch note told fields bytes (Refused CountFull) = are_tellable (note_pairs note) ≡ false
 TellsNote batch note told fields bytes _ = ⊥
@@ -71,7 +71,7 @@ TellsNoteOf view line told fields bytes status =
     (note : PlainNote) × IsNoteOf view line note × TellsNote line.batch note told fields bytes status
 
 -- The first line that waits is given out as `GivesLine` says, but that its note is told in its place. Where that isn't
--- told, the line stays the first one.
+-- told whole, the line stays the first one.
 abbrev pub GivesNote : SpanNote → Filling SpanField → Filling ℕ → LineReaderView → Status → LineReaderView → Type 0
 GivesNote told fields bytes old Done new =
     (line : PlainLine) × Fills old (record new { given = old.given; waiting = line ∷ new.waiting })

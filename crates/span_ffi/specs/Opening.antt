@@ -5,9 +5,10 @@ use Rattle.span_id.specs.declared.limits.Limits.{Limits}
 use Rattle.span_id.specs.Limits.{AreInRange}
 use Rattle.span_layers.specs.declared.form.Form.{Form}
 use Rattle.span_layers.specs.declared.form.Form.TheVariants.{Compact, Json}
+use Rattle.span_layers.specs.declared.style.TheConstants.FmtSpan.{FULL}
+use Rattle.span_layers.specs.FmtSpan.{bits_of}
 use Rattle.span_layers.specs.Rule.{Pair}
 use Rattle.span_layers.specs.Filter.{Filter}
-use Rattle.span_outlet.specs.Ring.{places_of}
 use Rattle.span_outlet.specs.LineReader.{LineReaderView}
 use Rattle.span_core.specs.World.{empty_world}
 use Rattle.span_ffi.specs.declared.data.SpanLimits.{SpanLimits}
@@ -49,7 +50,7 @@ behind_rules (rule ∷ rules) bytes = behind_rules rules (drop rule.prefix_len b
 -- the form and the kinds are there, and the layer has its rules
 pub record IsLayer (layer : SpanLayer) (rules : List SpanRule) (bytes : List ℕ) : Type 0 where
   pub form : layer.form ≤ 1
-  pub kinds : layer.kinds ≤ 15
+  pub kinds : layer.kinds ≤ bits_of FULL
   pub enough : layer.rules ≤ length rules
   pub rules_are : AreRules (take layer.rules rules) bytes
 
@@ -84,7 +85,7 @@ pub record AreNew
   pub in_range : AreInRange (said_limits limits)
   pub few : length layers ≤ 64
   pub said : AreLayers layers rules bytes
-  pub places : places_of reader.name ≡ limits.ring
+  pub places : reader.name.places ≡ limits.ring
   pub core_is : registry.core ≡ record {
     limits = said_limits limits;
     rules = said_filters layers rules bytes;
@@ -102,7 +103,7 @@ pub record AreNew
     taken = [];
     given = [];
     waiting = [];
-    refused = 0;
+    missed = 0;
   }
 
 -- Why there is no new registry. Data that say nothing are told as such, also where memory is short.

@@ -9,7 +9,6 @@ ghost use Rattle.span_layers.specs.Rule.{pair_of, pairs_of};
 ghost use Rattle.span_layers.specs.Filter.{filter_of};
 ghost use Rattle.span_layers.specs.FmtSpan.{bits_of};
 ghost use Rattle.span_layers.specs.Layers.{filters_in, forms_in};
-ghost use Rattle.span_outlet.specs.Ring.{places_of};
 ghost use Rattle.span_core.specs.World.{empty_world};
 ghost use Rattle.span_ffi.specs.Data.{BeginsWithText, said_level};
 ghost use Rattle.span_ffi.specs.Opening.{AreRules, said_pairs, behind_rules, said_form, IsLayer, AreLayers};
@@ -85,7 +84,7 @@ fn read_rule<'b>(alloc: Global, rules: &[SpanRule], bytes: &'b [u8]) -> Option<(
 
 // How and of what a layer writes.
 fn read_style(layer: &SpanLayer) -> Option<Style>
-    ensures exact { IsSome result ↔ ((layer.now.form ≤ 1) × (layer.now.kinds ≤ 15)) }
+    ensures exact { IsSome result ↔ ((layer.now.form ≤ 1) × (layer.now.kinds ≤ bits_of FmtSpan.FULL)) }
     ensures form { IfSome result (λ style. style.form ≡ said_form layer.now.form) }
     ensures kinds { IfSome result (λ style. bits_of style.spans ≡ layer.now.kinds) }
 {
@@ -94,7 +93,7 @@ fn read_style(layer: &SpanLayer) -> Option<Style>
         1 => Form::Json,
         _ => return None,
     };
-    if layer.kinds > 15 {
+    if layer.kinds > u32::from(FmtSpan::FULL.bits()) {
         return None;
     }
     let spans = FmtSpan::from_bits_retain(layer.kinds as u8);
@@ -109,7 +108,7 @@ fn read_layer<'b>(
     bytes: &'b [u8],
 ) -> Option<(Layer<ByRule, ByForm>, &'b [u8])>
     ensures form { OnSome result (layer.now.form ≤ 1) }
-    ensures kinds { OnSome result (layer.now.kinds ≤ 15) }
+    ensures kinds { OnSome result (layer.now.kinds ≤ bits_of FmtSpan.FULL) }
     ensures rules { OnSome result (AreRules own.now bytes.now) }
     ensures filter { IfSome result (λ read. filter_of read.0.rule read.0.style.spans
         ≡ record { pairs = said_pairs own.now bytes.now; spans = layer.now.kinds }) }
@@ -253,9 +252,9 @@ fn make(
       taken = [];
       given = [];
       waiting = [];
-      refused = 0;
+      missed = 0;
     }) }
-    ensures places { IfOk result (λ made. places_of made.1.value.name ≡ checked.now.ring) }
+    ensures places { IfOk result (λ made. made.1.value.name.places ≡ checked.now.ring) }
     ensures memory { IfErr result (λ fault. fault ≡ Fault.Memory) }
 {
     let Ok((ring, tap)) = Ring::pair(alloc, checked) else {

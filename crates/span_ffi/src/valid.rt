@@ -1,10 +1,13 @@
 //! Whether data say something, found without memory.
 ghost use Rattle.std.specs.Prelude.{◌≤◌, ◌≡◌, ◌↔◌, drop, IsTrue, IsSome, IfSome};
+ghost use Rattle.span_layers.specs.FmtSpan.{bits_of};
 ghost use Rattle.span_ffi.specs.Data.{BeginsWithText, IsMeta, behind_meta, AreFields, behind_field, IsEvent, IsEventAt};
 ghost use Rattle.span_ffi.specs.Opening.{AreRules, behind_rules, AreLayers};
 
 use crate::data::{SpanField, SpanLayer, SpanMeta, SpanRule};
 use crate::reading::{split_text, split_two};
+use bitflags::Flags;
+use span_layers::FmtSpan;
 
 // The bytes behind the name and the target, where they are there.
 fn behind_meta<'b>(meta: &SpanMeta, bytes: &'b [u8]) -> Option<&'b [u8]>
@@ -96,10 +99,10 @@ fn behind_rules<'b>(rules: &[SpanRule], bytes: &'b [u8]) -> Option<&'b [u8]>
 // The bytes behind the prefixes of a layer's own rules, where it has its form, its kinds and these.
 fn behind_layer<'b>(layer: &SpanLayer, own: &[SpanRule], bytes: &'b [u8]) -> Option<&'b [u8]>
     ensures exact { IsSome result ↔
-        ((layer.now.form ≤ 1) × (layer.now.kinds ≤ 15) × AreRules own.now bytes.now) }
+        ((layer.now.form ≤ 1) × (layer.now.kinds ≤ bits_of FmtSpan.FULL) × AreRules own.now bytes.now) }
     ensures behind { IfSome result (λ behind. behind.now ≡ behind_rules own.now bytes.now) }
 {
-    if layer.form > 1 || layer.kinds > 15 {
+    if layer.form > 1 || layer.kinds > u32::from(FmtSpan::FULL.bits()) {
         return None;
     }
     behind_rules(own, bytes)

@@ -1,25 +1,27 @@
 -- Counts through a write and a removal.
-use Rattle.std.proofs.Common.{◌≡◌, ◌≢◌, ℕ, ◌+◌, ◌-◌, ◌<◌, ◌≤◌, false, cond, List, [], ◌∷◌, length, get_or, take, drop, ◌++◌, leb, Option, Some, None, refl, sym, ap, subst, ◌∙◌, inl, inr, arith}
+use Rattle.std.proofs.Common.{◌≡◌, ◌≢◌, ℕ, ◌+◌, ◌-◌, ◌<◌, ◌≤◌, false, cond, List, [], ◌∷◌, length, get_or, take, drop, ◌++◌, leb, Option, Some, None, IsSome, refl, sym, ap, subst, ◌∙◌, inl, inr, arith}
 use Rattle.std.specs.Option.{option_map}
 use Rattle.std.proofs.lemmas.Bool.Decides.{eqb_tells}
 use Rattle.std.proofs.lemmas.Bool.{ne_eqb}
-use Rattle.span_slots.specs.Table.{Table, value_at, with_value, without_entry, table_removed, freed_with}
+use Rattle.span_slots.specs.Table.{Table, find, with_value, without_entry, table_removed, freed_with, AreApart}
 use Rattle.span_id.specs.Id.{slot_of}
 use Rattle.span_forest.specs.declared.span.Span.{Span}
 use Rattle.span_forest.specs.declared.span.Holder.{Holder}
 use Rattle.span_forest.specs.declared.span.Holder.TheVariants.{Handle, Entry}
 use Rattle.span_forest.specs.Node.{Node, node_of}
-use Rattle.span_forest.specs.Spans.{Spans, find, IsOpen, parent_in, parent_of, with_change, AreApart, nodes_of}
-use Rattle.span_forest.specs.Count.{is_some_id, children, holders, holders_in, reference_count}
+use Rattle.span_forest.specs.Spans.{Spans, IsOpen, parent_in, parent_of, with_change, nodes_of}
+use Rattle.span_forest.specs.Count.{is_parent, children, holders, holders_in, reference_count}
 use Rattle.span_forest.specs.Forest.{ForestView}
 use Rattle.span_forest.specs.Holders.{held_by, held_in, IsHeld, with_less, with_more}
 use Rattle.span_forest.specs.Keep.{with_holder}
 use Rattle.span_forest.specs.Release.{without_holder, freed_after, spans_left, closing_list}
 use Rattle.span_forest.specs.inside.Invariant.{AreCounted, IsSettled, IsConsistent, span_less, span_more, handles_in}
-use Rattle.span_forest.specs.inside.Chain.{without, without_all, Chain, IsPending}
+use Rattle.span_forest.specs.inside.Chain.{without_all, Chain, IsPending}
 use Rattle.span_forest.proofs.Ranks.{IsRanked}
 use Rattle.span_forest.specs.Forest.{IsForest}
-use Rattle.span_forest.proofs.Finds.{no_child, is_some_id_same, find-without_other, find-without_same, AreApart-without}
+use Rattle.span_slots.proofs.Entries.{find-without_same, find-without_other, find-with_value_same, find-with_value_other}
+use Rattle.span_slots.proofs.Apart.{AreApart-without_entry}
+use Rattle.span_forest.proofs.Finds.{no_child, is_parent_same}
 use Rattle.std.proofs.lemmas.List.{take_more, drop_more, take_all, drop_all}
 use Rattle.span_forest.proofs.Chains.{written_without, IsPending-without, chain_end}
 use Rattle.span_forest.proofs.Totals.{total-changed, total-without, total_le, length-nodes, length-changed}
@@ -27,35 +29,6 @@ use Rattle.span_forest.proofs.Handles.{handles-kept, handles-released, handles_l
 use Rattle.span_forest.specs.Count.{total_held, total_handles}
 use Rattle.span_forest.proofs.Along.{without_all_more, Along_none, released_by}
 use Rattle.span_forest.proofs.Nodes.{find-nodes, without-nodes, value_of_open, written-taken_same, written-taken_other, held_open, find-changed_same, find-changed_other, children-changed, IsForest-changed, IsOpen-changed}
-
-pub value_at-with_value_same : (es : List (ℕ × Span)) (id : ℕ) (span new : Span) → value_at es id ≡ Some span → value_at (with_value es id new) id ≡ Some new
-value_at-with_value_same [] id span new h = cc
-value_at-with_value_same (e ∷ es) id span new h =
-    elim (eqb_tells e.0 id) [ inl t ↦ rw t.0 refl | inr t ↦ rw t.0 (value_at-with_value_same es id span new (rw t.0 at h)) ]
-
-pub value_at-with_value_other : (es : List (ℕ × Span)) (id j : ℕ) (new : Span) → j ≢ id → value_at (with_value es id new) j ≡ value_at es j
-value_at-with_value_other [] id j new ne = refl
-value_at-with_value_other (e ∷ es) id j new ne =
-    let r = value_at-with_value_other es id j new ne in
-    elim (eqb_tells e.0 j) [
-      | inl t ↦ (let u = ne_eqb e.0 id (λ q. ne (sym t.1 ∙ q)) in rw (t.0, u) refl)
-      | inr t ↦ rw t.0 r
-    ]
-
-pub value_at-without_other : (es : List (ℕ × Span)) (id j : ℕ) → j ≢ id → value_at (without_entry es id) j ≡ value_at es j
-value_at-without_other [] id j ne = refl
-value_at-without_other (e ∷ es) id j ne =
-    let r = value_at-without_other es id j ne in
-    elim (eqb_tells e.0 id) [
-      | inl t ↦ (let u = ne_eqb e.0 j (λ q. ne (sym q ∙ t.1)) in rw (t.0, u) r)
-      | inr t ↦ elim (eqb_tells e.0 j) [ inl u ↦ rw (t.0, u.0) refl | inr u ↦ rw (t.0, u.0) r ]
-    ]
-
-pub value_at-without_same : (es : List (ℕ × Span)) (id : ℕ) → value_at (without_entry es id) id ≡ None
-value_at-without_same [] id = refl
-value_at-without_same (e ∷ es) id =
-    let r = value_at-without_same es id in
-    elim (eqb_tells e.0 id) [ inl t ↦ rw t.0 r | inr t ↦ rw (t.0, t.0) r ]
 
 -- a write of a node that f makes of the old one
 written_absent : (f : Node → Node) (es : List (ℕ × Span)) (id : ℕ) (new : Span) → find (nodes_of es) id ≡ None → nodes_of (with_value es id new) ≡ with_change f (nodes_of es) id
@@ -66,7 +39,7 @@ written_absent f (e ∷ es) id new h =
       | inr t ↦ (let r = written_absent f es id new (rw t.0 at h) in rw (t.0, r) refl)
     ]
 
-pub nodes-written : (f : Node → Node) (es : List (ℕ × Span)) (id : ℕ) (span new : Span) → AreApart (nodes_of es) → value_at es id ≡ Some span → node_of new ≡ f (node_of span) → nodes_of (with_value es id new) ≡ with_change f (nodes_of es) id
+pub nodes-written : (f : Node → Node) (es : List (ℕ × Span)) (id : ℕ) (span new : Span) → AreApart (nodes_of es) → find es id ≡ Some span → node_of new ≡ f (node_of span) → nodes_of (with_value es id new) ≡ with_change f (nodes_of es) id
 nodes-written f [] id span new a h k = cc
 nodes-written f (e ∷ es) id span new a h k =
     elim (eqb_tells e.0 id) [
@@ -84,7 +57,7 @@ changed_none (e ∷ es) id =
     let r = changed_none es id in
     elim (eqb_tells e.0 id) [ inl t ↦ rw (t.0, r) refl | inr t ↦ rw (t.0, r) refl ]
 
-pub nodes_kept : (es : List (ℕ × Span)) (id : ℕ) (span new : Span) → AreApart (nodes_of es) → value_at es id ≡ Some span → node_of new ≡ node_of span → nodes_of (with_value es id new) ≡ nodes_of es
+pub nodes_kept : (es : List (ℕ × Span)) (id : ℕ) (span new : Span) → AreApart (nodes_of es) → find es id ≡ Some span → node_of new ≡ node_of span → nodes_of (with_value es id new) ≡ nodes_of es
 nodes_kept es id span new a h k = nodes-written (λ n. n) es id span new a h k ∙ changed_none (nodes_of es) id
 
 node_less : (holder : Holder) (span : Span) → node_of (span_less holder span) ≡ with_less holder (node_of span)
@@ -95,75 +68,75 @@ count_less : (holder : Holder) (span : Span) → (span_less holder span).count �
 count_less Handle span = refl
 count_less Entry span = refl
 
-pub nodes_less : (es : List (ℕ × Span)) (id : ℕ) (holder : Holder) (span : Span) → AreApart (nodes_of es) → value_at es id ≡ Some span → nodes_of (with_value es id (span_less holder span)) ≡ without_holder (nodes_of es) id holder
+pub nodes_less : (es : List (ℕ × Span)) (id : ℕ) (holder : Holder) (span : Span) → AreApart (nodes_of es) → find es id ≡ Some span → nodes_of (with_value es id (span_less holder span)) ≡ without_holder (nodes_of es) id holder
 nodes_less es id holder span a h = nodes-written (with_less holder) es id span (span_less holder span) a h (node_less holder span)
 
 pub some_same : (a b : Span) (o : Option Span) → o ≡ Some a → o ≡ Some b → a ≡ b
 some_same a b o h k = cc
 
-pub counted_less : (es : List (ℕ × Span)) (id : ℕ) (holder : Holder) (span : Span) → IsSettled es → IsHeld (nodes_of es) id holder → value_at es id ≡ Some span → AreCounted (with_value es id (span_less holder span))
+pub counted_less : (es : List (ℕ × Span)) (id : ℕ) (holder : Holder) (span : Span) → IsSettled es → IsHeld (nodes_of es) id holder → find es id ≡ Some span → AreCounted (with_value es id (span_less holder span))
 counted_less es id holder span w held h j s f =
     let n = nodes_less es id holder span w.forest.ids_apart h in
     rw n (elim (eqb_tells j id) [
-      | inl t ↦ (let a = some_same s (span_less holder span) (value_at (with_value es id (span_less holder span)) j) f (rw t.1 (value_at-with_value_same es id span (span_less holder span) h)) in
+      | inl t ↦ (let a = some_same s (span_less holder span) (find (with_value es id (span_less holder span)) j) f (rw t.1 (find-with_value_same es id (span_less holder span) (subst IsSome (sym h) refl))) in
           let b = w.counted id span h in
           let d = written-taken_same (nodes_of es) id holder held in
           let e = count_less holder span in
           let q : s.count ≡ span.count - 1 = ap (λ x. x.count) a ∙ e in
           rw t.1 (omega arith))
-      | inr t ↦ (let g = sym (value_at-with_value_other es id j (span_less holder span) t.1) ∙ f in
+      | inr t ↦ (let g = sym (find-with_value_other es id j (span_less holder span) t.1) ∙ f in
           let b = w.counted j s g in
           let d = written-taken_other (nodes_of es) id j holder t.1 in
           omega arith)
     ])
 
-pub node_found : (es : List (ℕ × Span)) (id : ℕ) (span : Span) → value_at es id ≡ Some span → find (nodes_of es) id ≡ Some (node_of span)
+pub node_found : (es : List (ℕ × Span)) (id : ℕ) (span : Span) → find es id ≡ Some span → find (nodes_of es) id ≡ Some (node_of span)
 node_found es id span h = find-nodes es id ∙ ap (option_map node_of) h
 
 pub none_is : (o : Option Span) (x : Span) → o ≡ None → o ≡ Some x → ⊥
 none_is o x h k = let e : None ≡ Some x = sym h ∙ k in cc
 
-pub counted_root : (es : List (ℕ × Span)) (id : ℕ) (span : Span) → AreApart (nodes_of es) → AreCounted es → value_at es id ≡ Some span → span.parent ≡ None → AreCounted (without_entry es id)
+pub counted_root : (es : List (ℕ × Span)) (id : ℕ) (span : Span) → AreApart (nodes_of es) → AreCounted es → find es id ≡ Some span → span.parent ≡ None → AreCounted (without_entry es id)
 counted_root es id span a w h e j s f =
-    let ne : j ≢ id = λ q. none_is (value_at (without_entry es id) j) s (rw q (value_at-without_same es id)) f in
-    let g = sym (value_at-without_other es id j ne) ∙ f in
+    let ne : j ≢ id = λ q. none_is (find (without_entry es id) j) s (rw q (find-without_same es id)) f in
+    let g = sym (find-without_other es id j ne) ∙ f in
     let b = w j s g in
     let k = written_without (nodes_of es) id j (node_of span) a (node_found es id span h) ne in
     let k2 = rw e at k in
     rw (← without-nodes) (omega arith)
 
-pub counted_child : (es : List (ℕ × Span)) (id p : ℕ) (span up : Span) → AreApart (nodes_of es) → AreApart (nodes_of (without_entry es id)) → AreCounted es → value_at es id ≡ Some span → span.parent ≡ Some p → p ≢ id → value_at (without_entry es id) p ≡ Some up → AreCounted (with_value (without_entry es id) p (record up { count = up.count - 1 }))
+pub counted_child : (es : List (ℕ × Span)) (id p : ℕ) (span up : Span) → AreApart (nodes_of es) → AreApart (nodes_of (without_entry es id)) → AreCounted es → find es id ≡ Some span → span.parent ≡ Some p → p ≢ id → find (without_entry es id) p ≡ Some up → AreCounted (with_value (without_entry es id) p (record up { count = up.count - 1 }))
 counted_child es id p span up a a2 w h e np u j s f =
     let new : Span = record up { count = up.count - 1 } in
     let n = nodes_kept (without_entry es id) p up new a2 u refl ∙ sym (without-nodes es id) in
     rw n (elim (eqb_tells j p) [
-      | inl t ↦ (let q = some_same s new (value_at (with_value (without_entry es id) p new) j) f (rw t.1 (value_at-with_value_same (without_entry es id) p up new u)) in
+      | inl t ↦ (let q = some_same s new (find (with_value (without_entry es id) p new) j) f (rw t.1 (find-with_value_same (without_entry es id) p new (subst IsSome (sym u) refl))) in
           let c : s.count ≡ up.count - 1 = ap (λ x. x.count) q in
-          let g = sym (value_at-without_other es id p np) ∙ u in
+          let g = sym (find-without_other es id p np) ∙ u in
           let b = w p up g in
           let k = written_without (nodes_of es) id p (node_of span) a (node_found es id span h) np in
-          let k2 = rw (is_some_id_same span.parent p e) at k in
+          let k2 = rw (is_parent_same span.parent p e) at k in
           rw t.1 (omega arith))
-      | inr t ↦ (let f1 = sym (value_at-with_value_other (without_entry es id) p j new t.1) ∙ f in
-          let ne : j ≢ id = λ q. none_is (value_at (without_entry es id) j) s (rw q (value_at-without_same es id)) f1 in
-          let g = sym (value_at-without_other es id j ne) ∙ f1 in
+      | inr t ↦ (let f1 = sym (find-with_value_other (without_entry es id) p j new t.1) ∙ f in
+          let ne : j ≢ id = λ q. none_is (find (without_entry es id) j) s (rw q (find-without_same es id)) f1 in
+          let g = sym (find-without_other es id j ne) ∙ f1 in
           let b = w j s g in
           let k = written_without (nodes_of es) id j (node_of span) a (node_found es id span h) ne in
-          let other : is_some_id span.parent j ≡ false = rw e (ne_eqb p j (λ q. t.1 (sym q))) in
+          let other : is_parent span.parent j ≡ false = rw e (ne_eqb p j (λ q. t.1 (sym q))) in
           let k2 = rw other at k in
           omega arith)
     ])
 
 -- what one closing leaves of a table
-removed_is : (t : Table Span) (id : ℕ) (span : Span) → value_at t.entries id ≡ Some span → table_removed t id ≡ record t { entries = without_entry t.entries id; freed = freed_with t (slot_of id) }
+removed_is : (t : Table Span) (id : ℕ) (span : Span) → find t.entries id ≡ Some span → table_removed t id ≡ record t { entries = without_entry t.entries id; freed = freed_with t.last_generation t.given t.freed id }
 removed_is t id span h = rw h refl
 
 pub record Closed (t new : Table Span) (id : ℕ) : Type 0 where
-  pub nodes : nodes_of new.entries ≡ without (nodes_of t.entries) id
+  pub nodes : nodes_of new.entries ≡ without_entry (nodes_of t.entries) id
   pub counted : AreCounted new.entries
-  pub table : new ≡ record t { entries = new.entries; freed = freed_with t (slot_of id) }
+  pub table : new ≡ record t { entries = new.entries; freed = freed_with t.last_generation t.given t.freed id }
 
-pub closed_root : (t less : Table Span) (id : ℕ) (span : Span) → IsRanked (nodes_of t.entries) → AreCounted t.entries → value_at t.entries id ≡ Some span → less ≡ table_removed t id → span.parent ≡ None → Closed t less id
+pub closed_root : (t less : Table Span) (id : ℕ) (span : Span) → IsRanked (nodes_of t.entries) → AreCounted t.entries → find t.entries id ≡ Some span → less ≡ table_removed t id → span.parent ≡ None → Closed t less id
 closed_root t less id span w c h e p =
     let q = e ∙ removed_is t id span h in
     let es = ap (λ x. x.entries) q in
@@ -174,7 +147,7 @@ closed_root t less id span w c h e p =
     })
 
 -- the parent is there, and counts the child
-pub parent_counts : (t less : Table Span) (id p : ℕ) (span : Span) → IsRanked (nodes_of t.entries) → AreCounted t.entries → children (nodes_of t.entries) id ≡ 0 → value_at t.entries id ≡ Some span → less ≡ table_removed t id → span.parent ≡ Some p → (up : Span) × (value_at less.entries p ≡ Some up) × (0 < up.count)
+pub parent_counts : (t less : Table Span) (id p : ℕ) (span : Span) → IsRanked (nodes_of t.entries) → AreCounted t.entries → children (nodes_of t.entries) id ≡ 0 → find t.entries id ≡ Some span → less ≡ table_removed t id → span.parent ≡ Some p → (up : Span) × (find less.entries p ≡ Some up) × (0 < up.count)
 parent_counts t less id p span w c z h e k =
     let nodes = nodes_of t.entries in
     let par : parent_of nodes id ≡ Some p = ap parent_in (node_found t.entries id span h) ∙ k in
@@ -182,20 +155,20 @@ parent_counts t less id p span w c z h e k =
     let up = value_of_open t.entries p (w.parents_open id p par) in
     let counts = c p up.0 up.1 in
     let kids = written_without nodes id p (node_of span) w.apart (node_found t.entries id span h) np in
-    let kids2 = rw (is_some_id_same span.parent p k) at kids in
+    let kids2 = rw (is_parent_same span.parent p k) at kids in
     let q = e ∙ removed_is t id span h in
-    (up.0, ap (λ x. value_at x.entries p) q ∙ (value_at-without_other t.entries id p np ∙ up.1), omega arith)
+    (up.0, ap (λ x. find x.entries p) q ∙ (find-without_other t.entries id p np ∙ up.1), omega arith)
 
-pub closed_child : (t less new : Table Span) (id p : ℕ) (span : Span) → IsRanked (nodes_of t.entries) → AreCounted t.entries → children (nodes_of t.entries) id ≡ 0 → value_at t.entries id ≡ Some span → less ≡ table_removed t id → span.parent ≡ Some p → ((up : Span) → value_at less.entries p ≡ Some up → new ≡ record less { entries = with_value less.entries p (record up { count = up.count - 1 }) }) → Closed t new id
+pub closed_child : (t less new : Table Span) (id p : ℕ) (span : Span) → IsRanked (nodes_of t.entries) → AreCounted t.entries → children (nodes_of t.entries) id ≡ 0 → find t.entries id ≡ Some span → less ≡ table_removed t id → span.parent ≡ Some p → ((up : Span) → find less.entries p ≡ Some up → new ≡ record less { entries = with_value less.entries p (record up { count = up.count - 1 }) }) → Closed t new id
 closed_child t less new id p span w c z h e k lowered =
     let nodes = nodes_of t.entries in
     let up = parent_counts t less id p span w c z h e k in
     let q = e ∙ removed_is t id span h in
     let par : parent_of nodes id ≡ Some p = ap parent_in (node_found t.entries id span h) ∙ k in
     let np : p ≢ id = λ q. no_child nodes id id z (par ∙ ap (λ v. Some v) q) in
-    let at : value_at (without_entry t.entries id) p ≡ Some up.0 = sym (ap (λ x. value_at x.entries p) q) ∙ up.1 in
-    let a2 : AreApart (nodes_of (without_entry t.entries id)) = rw (← without-nodes) (AreApart-without nodes id w.apart) in
-    let step : new ≡ record t { entries = with_value (without_entry t.entries id) p (record up.0 { count = up.0.count - 1 }); freed = freed_with t (slot_of id) } =
+    let at : find (without_entry t.entries id) p ≡ Some up.0 = sym (ap (λ x. find x.entries p) q) ∙ up.1 in
+    let a2 : AreApart (nodes_of (without_entry t.entries id)) = rw (← without-nodes) (AreApart-without_entry nodes id w.apart) in
+    let step : new ≡ record t { entries = with_value (without_entry t.entries id) p (record up.0 { count = up.0.count - 1 }); freed = freed_with t.last_generation t.given t.freed id } =
     lowered up.0 up.1 ∙ ap (λ (x : Table Span). record x { entries = with_value x.entries p (record up.0 { count = up.0.count - 1 }) }) q in
     rw step (record {
       nodes = nodes_kept (without_entry t.entries id) p up.0 (record up.0 { count = up.0.count - 1 }) a2 at refl ∙ sym (without-nodes t.entries id);
@@ -225,14 +198,14 @@ Closes_first t now done rest x w = (w.pending.forest, w.pending.here x w.chain.0
 pub Closes_more : (t now new : Table Span) (done rest : List ℕ) (x : ℕ) → Closes t now done (x ∷ rest) → Closed now new x → Closes t new (done ++ x ∷ []) rest
 Closes_more t now new done rest x w d =
     let at : IsPending (nodes_of now.entries) (Some x) = subst (λ o. IsPending (nodes_of now.entries) o) w.chain.0 w.pending in
-    let freed : freed_with now (slot_of x) ≡ freed_after t.last_generation t.given t.freed (done ++ x ∷ []) = ap (λ (u : Table Span). freed_with u (slot_of x)) w.table ∙ sym (freed_after_more t.last_generation t.given t.freed done x) in
+    let freed : freed_with now.last_generation now.given now.freed x ≡ freed_after t.last_generation t.given t.freed (done ++ x ∷ []) = ap (λ (u : Table Span). freed_with u.last_generation u.given u.freed x) w.table ∙ sym (freed_after_more t.last_generation t.given t.freed done x) in
     record {
       next = parent_of (nodes_of now.entries) x;
       pending = rw d.nodes (IsPending-without (nodes_of now.entries) x at w.chain.1);
       chain = rw d.nodes w.chain.2;
       counted = d.counted;
-      nodes = d.nodes ∙ (ap (λ m. without m x) w.nodes ∙ sym (without_all_more done (nodes_of t.entries) x));
-      table = d.table ∙ (ap (λ (u : Table Span). record u { entries = new.entries; freed = freed_with now (slot_of x) }) w.table ∙ ap (λ v. record t { entries = new.entries; freed = v }) freed);
+      nodes = d.nodes ∙ (ap (λ m. without_entry m x) w.nodes ∙ sym (without_all_more done (nodes_of t.entries) x));
+      table = d.table ∙ (ap (λ (u : Table Span). record u { entries = new.entries; freed = freed_with now.last_generation now.given now.freed x }) w.table ∙ ap (λ v. record t { entries = new.entries; freed = v }) freed);
     }
 
 pub Closes_end : (t now : Table Span) (xs : List ℕ) (i : ℕ) → length xs ≤ i → Closes t now (take i xs) (drop i xs) → Closes t now xs []
@@ -246,23 +219,23 @@ settled_at_end t now done w = record {
   positive = λ j o. chain_end (nodes_of now.entries) w.next w.pending w.chain j o;
 }
 
-children-without-le : (spans : Spans) (x j : ℕ) → children (without spans x) j ≤ children spans j
+children-without-le : (spans : Spans) (x j : ℕ) → children (without_entry spans x) j ≤ children spans j
 children-without-le [] x j = omega arith
 children-without-le (e ∷ es) x j =
     let r = children-without-le es x j in
     elim (eqb_tells e.0 x) [ inl t ↦ rw t.0 (omega arith) | inr t ↦ rw t.0 (omega arith) ]
 
-written_without_le : (spans : Spans) (x j : ℕ) → reference_count (without spans x) j ≤ reference_count spans j
+written_without_le : (spans : Spans) (x j : ℕ) → reference_count (without_entry spans x) j ≤ reference_count spans j
 written_without_le spans x j =
     let r = children-without-le spans x j in
     elim (eqb_tells j x) [
-      | inl t ↦ (let k0 : find (without spans x) j ≡ None = rw t.1 (find-without_same spans x) in let k : holders_in (find (without spans x) j) ≡ 0 = ap holders_in k0 in omega arith)
+      | inl t ↦ (let k0 : find (without_entry spans x) j ≡ None = rw t.1 (find-without_same spans x) in let k : holders_in (find (without_entry spans x) j) ≡ 0 = ap holders_in k0 in omega arith)
       | inr t ↦ (let k = ap holders_in (find-without_other spans x j t.1) in omega arith)
     ]
 
 written_all_le : (xs : List ℕ) (spans : Spans) (j : ℕ) → reference_count (without_all spans xs) j ≤ reference_count spans j
 written_all_le [] spans j = omega arith
-written_all_le (x ∷ xs) spans j = let r = written_all_le xs (without spans x) j in let q = written_without_le spans x j in omega arith
+written_all_le (x ∷ xs) spans j = let r = written_all_le xs (without_entry spans x) j in let q = written_without_le spans x j in omega arith
 
 pub written_left_le : (spans : Spans) (id : ℕ) (holder : Holder) (xs : List ℕ) (j : ℕ) → IsHeld spans id holder → reference_count (without_all (without_holder spans id holder) xs) j ≤ reference_count spans j
 written_left_le spans id holder xs j h =
@@ -279,7 +252,7 @@ Closes_turn t now new xs i x l e w d =
     rw a (Closes_more t now new (take i xs) (drop (i + 1) xs) x (subst (Closes t now (take i xs)) b w) d)
 
 -- a span that has a holder has a count
-pub held_counts : (es : List (ℕ × Span)) (id : ℕ) (holder : Holder) → IsSettled es → IsHeld (nodes_of es) id holder → (span : Span) × (value_at es id ≡ Some span) × ((0 < held_by holder (node_of span)) × (0 < span.count))
+pub held_counts : (es : List (ℕ × Span)) (id : ℕ) (holder : Holder) → IsSettled es → IsHeld (nodes_of es) id holder → (span : Span) × (find es id ≡ Some span) × ((0 < held_by holder (node_of span)) × (0 < span.count))
 held_counts es id holder w h =
     let o = held_open (nodes_of es) id holder h in
     let s = value_of_open es id o in
@@ -332,11 +305,11 @@ written-kept_other spans id j holder ne =
     let d = children-changed (with_more holder) (with_more-parent holder) spans id j in
     omega arith
 
-pub nodes_more : (es : List (ℕ × Span)) (id : ℕ) (holder : Holder) (span : Span) → AreApart (nodes_of es) → value_at es id ≡ Some span → nodes_of (with_value es id (span_more holder span)) ≡ with_holder (nodes_of es) id holder
+pub nodes_more : (es : List (ℕ × Span)) (id : ℕ) (holder : Holder) (span : Span) → AreApart (nodes_of es) → find es id ≡ Some span → nodes_of (with_value es id (span_more holder span)) ≡ with_holder (nodes_of es) id holder
 nodes_more es id holder span a h = nodes-written (with_more holder) es id span (span_more holder span) a h (node_more holder span)
 
 -- a forest with one more holder
-pub IsConsistent-kept : (es : List (ℕ × Span)) (max total more handles more_handles id : ℕ) (holder : Holder) (span : Span) → IsConsistent es max total handles → value_at es id ≡ Some span → span.count < max → more ≡ total + 1 → more_handles ≡ handles + handles_in holder → IsConsistent (with_value es id (span_more holder span)) max more more_handles
+pub IsConsistent-kept : (es : List (ℕ × Span)) (max total more handles more_handles id : ℕ) (holder : Holder) (span : Span) → IsConsistent es max total handles → find es id ≡ Some span → span.count < max → more ≡ total + 1 → more_handles ≡ handles + handles_in holder → IsConsistent (with_value es id (span_more holder span)) max more more_handles
 IsConsistent-kept es max total more handles more_handles id holder span w h low one also =
     let n = nodes_more es id holder span w.settled.forest.ids_apart h in
     let f = node_found es id span h in
@@ -346,10 +319,10 @@ IsConsistent-kept es max total more handles more_handles id holder span w h low 
       settled = record {
         forest = rw n (IsForest-changed (with_more holder) (with_more-parent holder) (nodes_of es) id w.settled.forest);
         counted = λ j s g. rw n (elim (eqb_tells j id) [
-          | inl t ↦ (let a = some_same s (span_more holder span) (value_at (with_value es id (span_more holder span)) j) g (rw t.1 (value_at-with_value_same es id span (span_more holder span) h)) in
+          | inl t ↦ (let a = some_same s (span_more holder span) (find (with_value es id (span_more holder span)) j) g (rw t.1 (find-with_value_same es id (span_more holder span) (subst IsSome (sym h) refl))) in
               let q : s.count ≡ span.count + 1 = ap (λ x. x.count) a ∙ count_more_is holder span in
               rw t.1 (omega arith))
-          | inr t ↦ (let k = sym (value_at-with_value_other es id j (span_more holder span) t.1) ∙ g in
+          | inr t ↦ (let k = sym (find-with_value_other es id j (span_more holder span) t.1) ∙ g in
               let b = w.settled.counted j s k in
               let d = written-kept_other (nodes_of es) id j holder t.1 in
               omega arith)
@@ -378,7 +351,7 @@ part Handle span = omega arith
 part Entry span = omega arith
 
 -- each kind of holder is part of the count
-pub held_part : (es : List (ℕ × Span)) (id : ℕ) (holder : Holder) → IsSettled es → IsHeld (nodes_of es) id Handle → (span : Span) × (value_at es id ≡ Some span) × ((held_by holder (node_of span) ≤ span.count) × (span.count ≡ reference_count (nodes_of es) id))
+pub held_part : (es : List (ℕ × Span)) (id : ℕ) (holder : Holder) → IsSettled es → IsHeld (nodes_of es) id Handle → (span : Span) × (find es id ≡ Some span) × ((held_by holder (node_of span) ≤ span.count) × (span.count ≡ reference_count (nodes_of es) id))
 held_part es id holder w h =
     let o = held_open (nodes_of es) id Handle h in
     let s = value_of_open es id o in
@@ -419,9 +392,9 @@ total-closed : (xs : List ℕ) (spans : Spans) (o : Option ℕ) → AreApart spa
 total-closed [] spans o a c = refl
 total-closed (x ∷ xs) spans o a c =
     let z : reference_count spans x ≡ 0 = c.1 in
-    total-closed xs (without spans x) (parent_of spans x) (AreApart-without spans x a) c.2 ∙ total-without spans x a (omega arith)
+    total-closed xs (without_entry spans x) (parent_of spans x) (AreApart-without_entry spans x a) c.2 ∙ total-without spans x a (omega arith)
 
-length-without-le : (spans : Spans) (x : ℕ) → length (without spans x) ≤ length spans
+length-without-le : (spans : Spans) (x : ℕ) → length (without_entry spans x) ≤ length spans
 length-without-le [] x = omega arith
 length-without-le (e ∷ es) x =
     let r = length-without-le es x in
@@ -429,7 +402,7 @@ length-without-le (e ∷ es) x =
 
 length-closed-le : (xs : List ℕ) (spans : Spans) → length (without_all spans xs) ≤ length spans
 length-closed-le [] spans = omega arith
-length-closed-le (x ∷ xs) spans = let r = length-closed-le xs (without spans x) in let q = length-without-le spans x in omega arith
+length-closed-le (x ∷ xs) spans = let r = length-closed-le xs (without_entry spans x) in let q = length-without-le spans x in omega arith
 
 -- a forest after a release
 pub IsConsistent-released : (es new : List (ℕ × Span)) (max total handles fewer : ℕ) (id : ℕ) (holder : Holder) (xs : List ℕ) → IsConsistent es max total handles → IsHeld (nodes_of es) id holder → Chain (without_holder (nodes_of es) id holder) (Some id) xs → IsSettled new → nodes_of new ≡ without_all (without_holder (nodes_of es) id holder) xs → fewer ≡ handles - handles_in holder → IsConsistent new max (total - 1) fewer

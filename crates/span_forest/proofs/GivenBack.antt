@@ -8,7 +8,8 @@ use Rattle.span_forest.specs.declared.span.Holder.{Holder}
 use Rattle.span_forest.specs.declared.span.Holder.TheVariants.{Handle, Entry}
 use Rattle.span_forest.specs.declared.holding.Held.{Held}
 use Rattle.span_forest.specs.Node.{Node}
-use Rattle.span_forest.specs.Spans.{Spans, find, IsOpen, AreApart}
+use Rattle.span_slots.specs.Table.{find, AreApart}
+use Rattle.span_forest.specs.Spans.{Spans, IsOpen}
 use Rattle.span_forest.specs.Forest.{IsForest}
 use Rattle.span_forest.specs.Holders.{held_in}
 use Rattle.span_forest.specs.Holding.{held_of, what_holds, releases_of, spans_after, AreHeld, same_holder, given_back, IsGivenBack}

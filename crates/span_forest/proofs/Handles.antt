@@ -5,7 +5,8 @@ use Rattle.span_id.specs.Meta.{KeyValue}
 use Rattle.span_forest.specs.declared.span.Holder.{Holder}
 use Rattle.span_forest.specs.declared.span.Holder.TheVariants.{Handle, Entry}
 use Rattle.span_forest.specs.Node.{Node, with_fields}
-use Rattle.span_forest.specs.Spans.{Spans, find, AreApart, with_change, with_node}
+use Rattle.span_slots.specs.Table.{find, with_entry, AreApart}
+use Rattle.span_forest.specs.Spans.{Spans, with_change}
 use Rattle.span_forest.specs.Count.{holders_in, total_held, total_handles}
 use Rattle.span_forest.specs.Forest.{IsForest}
 use Rattle.span_forest.specs.Live.{is_live}
@@ -19,10 +20,10 @@ use Rattle.span_forest.proofs.Spared.{held_live}
 use Rattle.span_forest.proofs.Totals.{handles_weighed, weighed-changed, weighed-same, weighed-with, weighed-filter}
 
 -- a new span has as many more
-pub handles-with : (spans : Spans) (id : ℕ) (node : Node) → total_handles (with_node spans id node) ≡ total_handles spans + node.handles
+pub handles-with : (spans : Spans) (id : ℕ) (node : Node) → total_handles (with_entry spans id node) ≡ total_handles spans + node.handles
 handles-with spans id node =
     let is = weighed-with (λ (n : Node). n.handles) spans id node in
-    omega (arith, is, handles_weighed spans, handles_weighed (with_node spans id node))
+    omega (arith, is, handles_weighed spans, handles_weighed (with_entry spans id node))
 
 -- a change that leaves the handles of its span leaves their number
 pub handles-same : (f : Node → Node) → ((node : Node) → (f node).handles ≡ node.handles) → (spans : Spans) (id : ℕ) → total_handles (with_change f spans id) ≡ total_handles spans

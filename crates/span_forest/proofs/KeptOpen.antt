@@ -5,7 +5,8 @@ use Rattle.std.proofs.lemmas.Bool.Decides.{eqb_tells}
 use Rattle.std.proofs.lemmas.Bool.{cases_Bool, eq-eqb, ne_eqb}
 use Rattle.span_forest.specs.declared.holding.Held.{Held}
 use Rattle.span_forest.specs.Node.{Node}
-use Rattle.span_forest.specs.Spans.{Spans, find, IsOpen, AreApart}
+use Rattle.span_slots.specs.Table.{find, AreApart}
+use Rattle.span_forest.specs.Spans.{Spans, IsOpen}
 use Rattle.span_forest.specs.Walk.{walk}
 use Rattle.span_forest.specs.Count.{holders, is_held, total_held}
 use Rattle.span_forest.specs.Forest.{IsForest}

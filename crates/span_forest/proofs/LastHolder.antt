@@ -1,7 +1,7 @@
 -- A span that goes with the last holder that it has: the holder isn't taken out first.
 use Rattle.std.proofs.Common.{◌≡◌, ℕ, List, [], ◌∷◌, length, Some, refl, sym, ap, subst, ◌∙◌, inl, inr, arith}
 use Rattle.std.proofs.lemmas.Bool.Decides.{eqb_tells}
-use Rattle.span_slots.specs.Table.{Table}
+use Rattle.span_slots.specs.Table.{Table, without_entry}
 use Rattle.span_forest.specs.declared.span.Span.{Span}
 use Rattle.span_forest.specs.declared.span.Holder.{Holder}
 use Rattle.span_forest.specs.Node.{Node}
@@ -10,7 +10,7 @@ use Rattle.span_forest.specs.Count.{children}
 use Rattle.span_forest.specs.Holders.{IsHeld, with_less}
 use Rattle.span_forest.specs.Release.{without_holder, freed_after}
 use Rattle.span_forest.specs.inside.Invariant.{IsSettled}
-use Rattle.span_forest.specs.inside.Chain.{without, without_all, Chain, IsPending}
+use Rattle.span_forest.specs.inside.Chain.{without_all, Chain, IsPending}
 use Rattle.span_forest.proofs.Nodes.{with_less-parent, children-changed}
 use Rattle.span_forest.proofs.Chains.{IsPending-without}
 use Rattle.span_forest.proofs.Along.{Along_none}
@@ -24,7 +24,7 @@ chain_first spans id first closed above chain is =
     is ∙ ap (λ x. x ∷ above) (sym same)
 
 -- whatever a span was changed to, nothing is left of it where it is taken out
-without-changed : (f : Node → Node) (spans : Spans) (id : ℕ) → without (with_change f spans id) id ≡ without spans id
+without-changed : (f : Node → Node) (spans : Spans) (id : ℕ) → without_entry (with_change f spans id) id ≡ without_entry spans id
 without-changed f [] id = refl
 without-changed f (e ∷ es) id =
     let r = without-changed f es id in
@@ -39,7 +39,7 @@ leaf_before spans id holder closed above chain is =
     omega (arith, none, same)
 
 module _ (t now : Table Span) (id : ℕ) (holder : Holder) (closed above : List ℕ) (is : closed ≡ id ∷ above) (gone : Closed t now id) where
-  nodes_left : nodes_of now.entries ≡ without (without_holder (nodes_of t.entries) id holder) id
+  nodes_left : nodes_of now.entries ≡ without_entry (without_holder (nodes_of t.entries) id holder) id
   nodes_left = gone.nodes ∙ sym (without-changed (with_less holder) (nodes_of t.entries) id)
 
   -- what is left to close once the span has gone with its holder

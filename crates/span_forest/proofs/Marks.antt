@@ -8,14 +8,14 @@ use Rattle.std.proofs.lemmas.List.Elements.{filter-append}
 use Rattle.std.specs.Prelude.{slice_index, is_some, IsTrue}
 use Rattle.std.specs.Option.{option_map}
 use Rattle.span_id.specs.Id.{slot_of, generation_of}
-use Rattle.span_slots.specs.Table.{value_at}
+use Rattle.span_slots.specs.Table.{find, AreApart, all_ids}
 use Rattle.span_forest.specs.declared.span.Span.{Span}
 use Rattle.span_forest.specs.declared.holding.Held.{Held}
 use Rattle.span_forest.specs.Node.{Node, node_of}
-use Rattle.span_forest.specs.Spans.{Spans, find, IsOpen, AreApart, parent_in, parent_of, nodes_of}
+use Rattle.span_forest.specs.Spans.{Spans, IsOpen, parent_in, parent_of, nodes_of}
 use Rattle.span_forest.specs.Count.{is_held}
 use Rattle.span_forest.specs.Forest.{IsForest}
-use Rattle.span_forest.specs.Holding.{open_ids, held_of, held_spans, what_holds}
+use Rattle.span_forest.specs.Holding.{held_of, held_spans, what_holds}
 use Rattle.span_forest.specs.inside.Marks.{is_below, known_of, is_known, WillBeKnown, AreMarks, held_one}
 use Rattle.span_forest.proofs.Finds.{child_open}
 use Rattle.span_forest.proofs.OpenIds.{id_place, find_place, some_span, Place}
@@ -59,7 +59,7 @@ climbs_at spans id at x next g e = subst (Climbs spans id at) e g
 not_known : (marks : List (Option Bool)) (id x : ℕ) → known_of marks id x ≡ None → x ≢ id
 not_known marks id x h e = let h2 = rw (eq-eqb x id e) at h in cc
 
-pub climbs_turn : (es : List (ℕ × Span)) (id at x : ℕ) (span : Span) (marks : List (Option Bool)) (next : Option ℕ) → IsForest (nodes_of es) → Climbs (nodes_of es) id at next → next ≡ Some x → known_of marks id x ≡ None → value_at es x ≡ Some span → Climbed (nodes_of es) id at next span.parent
+pub climbs_turn : (es : List (ℕ × Span)) (id at x : ℕ) (span : Span) (marks : List (Option Bool)) (next : Option ℕ) → IsForest (nodes_of es) → Climbs (nodes_of es) id at next → next ≡ Some x → known_of marks id x ≡ None → find es x ≡ Some span → Climbed (nodes_of es) id at next span.parent
 climbs_turn es id at x span marks next w g0 n k f =
     let spans = nodes_of es in
     let g = climbs_at spans id at x next g0 n in
@@ -73,9 +73,9 @@ climbs_turn es id at x span marks next w g0 n k f =
       smaller = (let a = ap length step in let b = ap (λ o. length (walk_from spans o)) n in omega arith);
     }
 
-pub climbs_there : (es : List (ℕ × Span)) (id at x : ℕ) (next : Option ℕ) → Climbs (nodes_of es) id at next → next ≡ Some x → value_at es x ≡ None → ⊥
+pub climbs_there : (es : List (ℕ × Span)) (id at x : ℕ) (next : Option ℕ) → Climbs (nodes_of es) id at next → next ≡ Some x → find es x ≡ None → ⊥
 climbs_there es id at x next g e h =
-    let s = value_of_open es x (g.here x e) in none_is (value_at es x) s.0 h s.1
+    let s = value_of_open es x (g.here x e) in none_is (find es x) s.0 h s.1
 
 -- what is known of the next span is so of the first
 pub climbs_known : (spans : Spans) (id at x : ℕ) (marks : List (Option Bool)) (below : Bool) (next : Option ℕ) → AreMarks spans id None marks → Climbs spans id at next → next ≡ Some x → known_of marks id x ≡ Some below → below ≡ is_below spans id at
@@ -252,35 +252,35 @@ one_skipped : (spans : Spans) (id : ℕ) (e : ℕ × Node) → is_below spans id
 one_skipped spans id e h =
     elim (cases_Bool (is_held e.1)) [ inl t ↦ rw (t, h) refl | inr t ↦ rw t refl ]
 
-pub gathered_held : (spans : Spans) (id i : ℕ) (d : ℕ × Node) → AreApart spans → i < length spans → is_below spans id (get_or (open_ids spans) i 0) ≡ true → gathered_in spans id (i + 1) ≡ gathered_in spans id i ++ held_one (get_or (open_ids spans) i 0) (find spans (get_or (open_ids spans) i 0))
+pub gathered_held : (spans : Spans) (id i : ℕ) (d : ℕ × Node) → AreApart spans → i < length spans → is_below spans id (get_or (all_ids spans) i 0) ≡ true → gathered_in spans id (i + 1) ≡ gathered_in spans id i ++ held_one (get_or (all_ids spans) i 0) (find spans (get_or (all_ids spans) i 0))
 gathered_held spans id i d a low h =
     let same = id_place spans i d low in
     let b : is_below spans id (get_or spans i d).0 ≡ true = ap (is_below spans id) (sym same) ∙ h in
     rw (same, find_place spans i d a low) (gathered_more spans id i d low ∙ ap (λ v. gathered_in spans id i ++ v) (one_held spans id (get_or spans i d) b))
 
-pub gathered_skipped : (spans : Spans) (id i : ℕ) (d : ℕ × Node) → i < length spans → is_below spans id (get_or (open_ids spans) i 0) ≡ false → gathered_in spans id (i + 1) ≡ gathered_in spans id i
+pub gathered_skipped : (spans : Spans) (id i : ℕ) (d : ℕ × Node) → i < length spans → is_below spans id (get_or (all_ids spans) i 0) ≡ false → gathered_in spans id (i + 1) ≡ gathered_in spans id i
 gathered_skipped spans id i d low h =
     let same = id_place spans i d low in
     let b : is_below spans id (get_or spans i d).0 ≡ false = ap (is_below spans id) (sym same) ∙ h in
     gathered_more spans id i d low ∙ (ap (λ v. gathered_in spans id i ++ v) (one_skipped spans id (get_or spans i d) b) ∙ append-nil (gathered_in spans id i))
 
-pub gathered_all : (spans : Spans) (id i : ℕ) (xs : List ℕ) → xs ≡ open_ids spans → length xs ≤ i → gathered_in spans id i ≡ what_holds spans id
+pub gathered_all : (spans : Spans) (id i : ℕ) (xs : List ℕ) → xs ≡ all_ids spans → length xs ≤ i → gathered_in spans id i ≡ what_holds spans id
 gathered_all spans id i xs same past =
-    let len : length (open_ids spans) ≡ length spans = length-map spans (λ (e : ℕ × Node). e.0) in
+    let len : length (all_ids spans) ≡ length spans = length-map spans (λ (e : ℕ × Node). e.0) in
     let all = ap length same in
     ap (λ v. map held_of (filter (λ e. holding spans id e.0 e.1) v)) (take_all i spans (omega (arith, len, all, past))) ∙ sym (holds_below spans id)
 
 -- ---- one span's holders
 
-pub held_pushed : (es : List (ℕ × Span)) (at : ℕ) (span : Span) → value_at es at ≡ Some span → 0 < span.handles + span.entries → held_one at (find (nodes_of es) at) ≡ held_of (at, node_of span) ∷ []
+pub held_pushed : (es : List (ℕ × Span)) (at : ℕ) (span : Span) → find es at ≡ Some span → 0 < span.handles + span.entries → held_one at (find (nodes_of es) at) ≡ held_of (at, node_of span) ∷ []
 held_pushed es at span f h = rw (node_found es at span f, lt-ltb 0 (span.handles + span.entries) h) refl
 
-pub held_none : (es : List (ℕ × Span)) (at : ℕ) (span : Span) → value_at es at ≡ Some span → span.handles ≤ 0 → span.entries ≤ 0 → held_one at (find (nodes_of es) at) ≡ []
+pub held_none : (es : List (ℕ × Span)) (at : ℕ) (span : Span) → find es at ≡ Some span → span.handles ≤ 0 → span.entries ≤ 0 → held_one at (find (nodes_of es) at) ≡ []
 held_none es at span f h k =
     let z : ltb 0 (span.handles + span.entries) ≡ false = grind (arith, nat_tests) in
     rw (node_found es at span f, z) refl
 
-pub held_absent : (es : List (ℕ × Span)) (at : ℕ) → value_at es at ≡ None → held_one at (find (nodes_of es) at) ≡ []
+pub held_absent : (es : List (ℕ × Span)) (at : ℕ) → find es at ≡ None → held_one at (find (nodes_of es) at) ≡ []
 held_absent es at f = ap (held_one at) (find-nodes es at ∙ ap (option_map node_of) f)
 
 -- a list that is replaced as a whole
@@ -308,7 +308,7 @@ held_first spans i = map held_of (filter (λ e. is_held e.1) (take i spans))
 one_alone : (e : ℕ × Node) → map held_of (filter (λ (e : ℕ × Node). is_held e.1) (e ∷ [])) ≡ held_one e.0 (Some e.1)
 one_alone e = elim (cases_Bool (is_held e.1)) [ inl t ↦ rw t refl | inr t ↦ rw t refl ]
 
-held_next : (spans : Spans) (i : ℕ) (d : ℕ × Node) → AreApart spans → i < length spans → held_first spans (i + 1) ≡ held_first spans i ++ held_one (get_or (open_ids spans) i 0) (find spans (get_or (open_ids spans) i 0))
+held_next : (spans : Spans) (i : ℕ) (d : ℕ × Node) → AreApart spans → i < length spans → held_first spans (i + 1) ≡ held_first spans i ++ held_one (get_or (all_ids spans) i 0) (find spans (get_or (all_ids spans) i 0))
 held_next spans i d a low =
     let f : ℕ × Node → Bool = λ e. is_held e.1 in
     rw (id_place spans i d low, find_place spans i d a low)

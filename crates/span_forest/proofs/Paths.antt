@@ -4,7 +4,7 @@ use Rattle.std.proofs.Common.{String, Global}
 use Rattle.std.specs.Prelude.{string_bytes, reverse}
 use Rattle.std.proofs.lemmas.List.{append-nil, map-append, reverse-append}
 use Rattle.span_id.specs.Bits.{has_bit}
-use Rattle.span_slots.specs.Table.{value_at}
+use Rattle.span_slots.specs.Table.{find}
 use Rattle.span_forest.specs.declared.span.Span.{Span}
 use Rattle.span_forest.specs.Node.{node_of}
 use Rattle.span_forest.specs.Spans.{Spans, IsOpen, parent_in, parent_of, nodes_of}
@@ -12,7 +12,7 @@ use Rattle.span_forest.specs.Walk.{walk_within, walk, Ends}
 use Rattle.span_forest.specs.Path.{name_for, names_for, path}
 use Rattle.span_forest.specs.Forest.{IsForest}
 use Rattle.span_forest.proofs.Ranks.{walk_more}
-use Rattle.span_forest.proofs.Counts.{node_found, none_is}
+use Rattle.span_forest.proofs.Counts.{none_is}
 use Rattle.span_forest.proofs.Nodes.{value_of_open}
 
 -- the walk from a span that may be there
@@ -42,11 +42,10 @@ Gathers_none spans layer id o = record { all = refl; here = λ i e. (let same : 
 pub Gathers_at : (spans : Spans) (layer id at : ℕ) (names : List (List ℕ)) (next : Option ℕ) → Gathers spans layer id names next → next ≡ Some at → Gathers spans layer id names (Some at)
 Gathers_at spans layer id at names next g e = subst (Gathers spans layer id names) e g
 
-pub Gathers_turn : (es : List (ℕ × Span)) (layer id at : ℕ) (span : Span) (names more : List (List ℕ)) (next : Option ℕ) → IsForest (nodes_of es) → Gathers (nodes_of es) layer id names next → next ≡ Some at → value_at es at ≡ Some span → more ≡ names ++ name_for layer (Some (node_of span)) → Gathered (nodes_of es) layer id more next span.parent
-Gathers_turn es layer id at span names more next w g0 n f m =
+pub Gathers_turn : (es : List (ℕ × Span)) (layer id at : ℕ) (span : Span) (names more : List (List ℕ)) (next : Option ℕ) → IsForest (nodes_of es) → Gathers (nodes_of es) layer id names next → next ≡ Some at → find (nodes_of es) at ≡ Some (node_of span) → more ≡ names ++ name_for layer (Some (node_of span)) → Gathered (nodes_of es) layer id more next span.parent
+Gathers_turn es layer id at span names more next w g0 n found m =
     let spans = nodes_of es in
     let g = Gathers_at spans layer id at names next g0 n in
-    let found = node_found es at span f in
     let parent : parent_of spans at ≡ span.parent = ap parent_in found in
     let step : walk_from spans (Some at) ≡ at ∷ walk_from spans span.parent = walk_step spans at w (g.here at refl) ∙ ap (λ o. at ∷ walk_from spans o) parent in
     let first : names_for layer spans (walk_from spans (Some at)) ≡ name_for layer (Some (node_of span)) ++ names_for layer spans (walk_from spans span.parent) =
@@ -83,6 +82,6 @@ gathered spans layer id names more next g e m =
     let whole : map string_bytes names ≡ names_for layer spans (walk spans id) = sym (append-nil (map string_bytes names)) ∙ (ap (λ v. map string_bytes names ++ v) (sym rest) ∙ all) in
     ap (map string_bytes) m ∙ (map-reverse string_bytes names ∙ ap reverse whole)
 
-pub there : (es : List (ℕ × Span)) (layer id at : ℕ) (names : List (List ℕ)) (next : Option ℕ) → Gathers (nodes_of es) layer id names next → next ≡ Some at → value_at es at ≡ None → ⊥
+pub there : (es : List (ℕ × Span)) (layer id at : ℕ) (names : List (List ℕ)) (next : Option ℕ) → Gathers (nodes_of es) layer id names next → next ≡ Some at → find es at ≡ None → ⊥
 there es layer id at names next g e h =
-    let s = value_of_open es at (g.here at e) in none_is (value_at es at) s.0 h s.1
+    let s = value_of_open es at (g.here at e) in none_is (find es at) s.0 h s.1

@@ -6,23 +6,25 @@ use Rattle.std.proofs.lemmas.Bool.{ne_eqb, cases_Bool}
 use Rattle.span_id.specs.Id.{slot_of, generation_of}
 use Rattle.span_id.specs.declared.fault.Fault.{Fault}
 use Rattle.span_id.specs.declared.fault.Fault.TheVariants.{Unknown, CountFull, Full, NotEntered, TooManyLayers, BadName, Backlog, BadLimits, Memory}
-use Rattle.span_slots.specs.Table.{Table, value_at, with_value, with_entry, issue, id_at, table_inserted, next_id, next_slot, IsIssued}
+use Rattle.span_slots.specs.Table.{Table, find, with_value, with_entry, issue, id_at, table_inserted, next_id, next_slot, IsIssued, AreApart}
 use Rattle.span_slots.specs.Change.{Insert, after, inserted_in}
 use Rattle.span_forest.specs.declared.span.Span.{Span}
 use Rattle.span_forest.specs.Node.{node_of}
-use Rattle.span_forest.specs.Spans.{find, IsOpen, AreApart, with_node, nodes_of}
-use Rattle.span_forest.specs.Count.{holders, is_some_id, reference_count}
+use Rattle.span_forest.specs.Spans.{IsOpen, nodes_of}
+use Rattle.span_forest.specs.Count.{holders, is_parent, reference_count}
 use Rattle.span_forest.specs.Forest.{IsForest, ForestView}
 use Rattle.span_forest.specs.Add.{WhyNotAdded}
 use Rattle.span_forest.specs.inside.Adding.{WhyNoChild, HasRoomAbove, IsNew}
 use Rattle.span_forest.specs.inside.Invariant.{IsSettled, IsConsistent, counts_more}
 use Rattle.span_forest.proofs.Ranks.{ranked}
 use Rattle.span_forest.proofs.Walks.{forest_from}
-use Rattle.span_forest.proofs.Finds.{is_some_id_true}
+use Rattle.span_forest.proofs.Finds.{is_parent_true}
 use Rattle.span_forest.proofs.Counts.{nodes_kept}
 use Rattle.span_forest.proofs.Totals.{total-with}
 use Rattle.span_forest.proofs.Handles.{handles-with}
-use Rattle.span_forest.proofs.Adds.{nodes-with, value_at-with_other, AreApart-with, IsRanked-with, not_found, found_open, written_new, written_old, counted_new_root, counted_new_child, open_back}
+use Rattle.span_slots.proofs.Entries.{find-with_other}
+use Rattle.span_slots.proofs.Apart.{AreApart-with_entry}
+use Rattle.span_forest.proofs.Adds.{nodes-with, IsRanked-with, not_found, found_open, written_new, written_old, counted_new_root, counted_new_child, open_back}
 
 no_id : (id : ℕ) → None ≡ Some id → ⊥
 no_id id h = cc
@@ -58,13 +60,13 @@ issued_alone t mid new id other span n a s g law =
 -- what a new span leaves of a table
 pub record Placed (t new : Table Span) (id : ℕ) (span : Span) : Type 0 where
   pub settled : IsSettled new.entries
-  pub nodes : nodes_of new.entries ≡ with_node (nodes_of t.entries) id (node_of span)
+  pub nodes : nodes_of new.entries ≡ with_entry (nodes_of t.entries) id (node_of span)
   pub table : new ≡ record t { entries = new.entries; given = issue t.given (slot_of id); freed = drop 1 t.freed }
 
 one_count : (span : Span) → IsNew span → span.count ≡ holders (node_of span)
 one_count span w = let a = w.handles in let b = w.entries in let c = w.count in omega arith
 
-open_above : (es : List (ℕ × Span)) (max : ℕ) (o : Option ℕ) → HasRoomAbove es max o → (p : ℕ) → o ≡ Some p → IsSomeAnd (value_at es p) (λ above. above.count < max)
+open_above : (es : List (ℕ × Span)) (max : ℕ) (o : Option ℕ) → HasRoomAbove es max o → (p : ℕ) → o ≡ Some p → IsSomeAnd (find es p) (λ above. above.count < max)
 open_above es max None h p e = cc
 open_above es max (Some q) h p e = let same : q ≡ p = cc in rw (← same) h
 
@@ -82,14 +84,14 @@ above_below : (o : Option Span) (max high : ℕ) → max ≤ high → IsSomeAnd 
 above_below None max high le h = absurd h
 above_below (Some up) max high le h = omega arith
 
-module _ (t : Table Span) (id : ℕ) (span : Span) (w : IsSettled t.entries) (absent : value_at t.entries id ≡ None) (fresh : IsNew span) where
+module _ (t : Table Span) (id : ℕ) (span : Span) (w : IsSettled t.entries) (absent : find t.entries id ≡ None) (fresh : IsNew span) where
   absent_node : find (nodes_of t.entries) id ≡ None
   absent_node = not_found t.entries id absent
 
-  forest_with : ((p : ℕ) → span.parent ≡ Some p → IsOpen (nodes_of t.entries) p) → IsForest (with_node (nodes_of t.entries) id (node_of span))
-  forest_with par = forest_from (with_node (nodes_of t.entries) id (node_of span)) (IsRanked-with (nodes_of t.entries) id (node_of span) (ranked (nodes_of t.entries) w.forest) absent_node par)
+  forest_with : ((p : ℕ) → span.parent ≡ Some p → IsOpen (nodes_of t.entries) p) → IsForest (with_entry (nodes_of t.entries) id (node_of span))
+  forest_with par = forest_from (with_entry (nodes_of t.entries) id (node_of span)) (IsRanked-with (nodes_of t.entries) id (node_of span) (ranked (nodes_of t.entries) w.forest) absent_node par)
 
-  positive_with : is_some_id span.parent id ≡ false → (j : ℕ) → IsOpen (with_node (nodes_of t.entries) id (node_of span)) j → 0 < reference_count (with_node (nodes_of t.entries) id (node_of span)) j
+  positive_with : is_parent span.parent id ≡ false → (j : ℕ) → IsOpen (with_entry (nodes_of t.entries) id (node_of span)) j → 0 < reference_count (with_entry (nodes_of t.entries) id (node_of span)) j
   positive_with own j o =
       elim (eqb_tells j id) [
         | inl q ↦ (let n = written_new t.entries id span w absent (one_count span fresh) own in let c = fresh.count in rw q.1 (omega arith))
@@ -111,23 +113,23 @@ module _ (t : Table Span) (id : ℕ) (span : Span) (w : IsSettled t.entries) (ab
       })
 
   -- the parent is there, and may count the child
-  pub parent_there : (mid : Table Span) (p max : ℕ) → mid ≡ stored t id span → span.parent ≡ Some p → HasRoomAbove t.entries max span.parent → (up : Span) × (value_at t.entries p ≡ Some up) × (up.count < max) × (value_at mid.entries p ≡ Some up) × (p ≢ id)
+  pub parent_there : (mid : Table Span) (p max : ℕ) → mid ≡ stored t id span → span.parent ≡ Some p → HasRoomAbove t.entries max span.parent → (up : Span) × (find t.entries p ≡ Some up) × (up.count < max) × (find mid.entries p ≡ Some up) × (p ≢ id)
   parent_there mid p max e q room =
-      let up = the_above (value_at t.entries p) max (open_above t.entries max span.parent room p q) in
-      let np : p ≢ id = λ s. some_none (sym up.1 ∙ (ap (value_at t.entries) s ∙ absent)) in
-      (up.0, up.1, up.2, ap (λ (x : Table Span). value_at x.entries p) e ∙ (value_at-with_other t.entries id p span np ∙ up.1), np)
+      let up = the_above (find t.entries p) max (open_above t.entries max span.parent room p q) in
+      let np : p ≢ id = λ s. some_none (sym up.1 ∙ (ap (find t.entries) s ∙ absent)) in
+      (up.0, up.1, up.2, ap (λ (x : Table Span). find x.entries p) e ∙ (find-with_other t.entries id p span np ∙ up.1), np)
 
-  pub placed_child : (mid new : Table Span) (p max : ℕ) → mid ≡ stored t id span → span.parent ≡ Some p → HasRoomAbove t.entries max span.parent → ((up : Span) → value_at mid.entries p ≡ Some up → new ≡ record mid { entries = with_value mid.entries p (counts_more up) }) → Placed t new id span
+  pub placed_child : (mid new : Table Span) (p max : ℕ) → mid ≡ stored t id span → span.parent ≡ Some p → HasRoomAbove t.entries max span.parent → ((up : Span) → find mid.entries p ≡ Some up → new ≡ record mid { entries = with_value mid.entries p (counts_more up) }) → Placed t new id span
   placed_child mid new p max e q room raised =
       let up = parent_there mid p max e q room in
       let es = with_entry t.entries id span in
       let nodes = nodes-with t.entries id span in
-      let apart : AreApart (nodes_of es) = rw nodes (AreApart-with (nodes_of t.entries) id (node_of span) absent_node w.forest.ids_apart) in
-      let at : value_at es p ≡ Some up.0 = value_at-with_other t.entries id p span up.4 ∙ up.1 in
+      let apart : AreApart (nodes_of es) = rw nodes (AreApart-with_entry (nodes_of t.entries) id (node_of span) absent_node w.forest.ids_apart) in
+      let at : find es p ≡ Some up.0 = find-with_other t.entries id p span up.4 ∙ up.1 in
       let step : new ≡ record t { entries = with_value es p (counts_more up.0); given = issue t.given (slot_of id); freed = drop 1 t.freed } =
       raised up.0 up.3 ∙ ap (λ (x : Table Span). record x { entries = with_value x.entries p (counts_more up.0) }) e in
-      let whole : nodes_of (with_value es p (counts_more up.0)) ≡ with_node (nodes_of t.entries) id (node_of span) = nodes_kept es p up.0 (counts_more up.0) apart at refl ∙ nodes in
-      let own : is_some_id span.parent id ≡ false = rw q (ne_eqb p id up.4) in
+      let whole : nodes_of (with_value es p (counts_more up.0)) ≡ with_entry (nodes_of t.entries) id (node_of span) = nodes_kept es p up.0 (counts_more up.0) apart at refl ∙ nodes in
+      let own : is_parent span.parent id ≡ false = rw q (ne_eqb p id up.4) in
       rw step (record {
         settled = record {
           forest = rw whole (forest_with (λ r k. (let same : p ≡ r = cc in rw (← same) (found_open t.entries p up.0 up.1))));
@@ -141,14 +143,14 @@ module _ (t : Table Span) (id : ℕ) (span : Span) (w : IsSettled t.entries) (ab
 as_one : Bool → ℕ
 as_one b = cond b 1 0
 
-own_parent : (es : List (ℕ × Span)) (max id : ℕ) (o : Option ℕ) → value_at es id ≡ None → HasRoomAbove es max o → is_some_id o id ≡ false
+own_parent : (es : List (ℕ × Span)) (max id : ℕ) (o : Option ℕ) → find es id ≡ None → HasRoomAbove es max o → is_parent o id ≡ false
 own_parent es max id None absent room = refl
 own_parent es max id (Some p) absent room =
-    let up = the_above (value_at es p) max room in
-    ne_eqb p id (λ s. some_none (sym up.1 ∙ (ap (value_at es) s ∙ absent)))
+    let up = the_above (find es p) max room in
+    ne_eqb p id (λ s. some_none (sym up.1 ∙ (ap (find es) s ∙ absent)))
 
 -- what every forest keeps holds with a new span too
-pub IsConsistent-added : (es new : List (ℕ × Span)) (max total handles id : ℕ) (span : Span) → IsConsistent es max total handles → value_at es id ≡ None → IsNew span → HasRoomAbove es max span.parent → IsSettled new → nodes_of new ≡ with_node (nodes_of es) id (node_of span) → length new ≤ 4294967295 → IsConsistent new max (total + 1) (handles + 1)
+pub IsConsistent-added : (es new : List (ℕ × Span)) (max total handles id : ℕ) (span : Span) → IsConsistent es max total handles → find es id ≡ None → IsNew span → HasRoomAbove es max span.parent → IsSettled new → nodes_of new ≡ with_entry (nodes_of es) id (node_of span) → length new ≤ 4294967295 → IsConsistent new max (total + 1) (handles + 1)
 unfolding as_one
 IsConsistent-added es new max total handles id span w absent fresh room s n few =
     let one = one_count span fresh in
@@ -159,12 +161,12 @@ IsConsistent-added es new max total handles id span w absent fresh room s n few 
             let c = fresh.count in let low = w.max_low in rw q.1 (omega arith))
         | inr q ↦ (let k = written_old es id span w.settled absent one j q.1 in
             let b = w.bounded j in
-            elim (cases_Bool (is_some_id span.parent j)) [
-              | inl t ↦ (let up = the_above (value_at es j) max (open_above es max span.parent room j (is_some_id_true span.parent j t)) in
+            elim (cases_Bool (is_parent span.parent j)) [
+              | inl t ↦ (let up = the_above (find es j) max (open_above es max span.parent room j (is_parent_true span.parent j t)) in
                   let c = w.settled.counted j up.0 up.1 in
-                  let z : as_one (is_some_id span.parent j) ≡ 1 = ap as_one t in
+                  let z : as_one (is_parent span.parent j) ≡ 1 = ap as_one t in
                   let low = up.2 in omega arith)
-              | inr t ↦ (let z : as_one (is_some_id span.parent j) ≡ 0 = ap as_one t in omega arith)
+              | inr t ↦ (let z : as_one (is_parent span.parent j) ≡ 0 = ap as_one t in omega arith)
             ])
       ]);
       total_is = rw n (let k = total-with (nodes_of es) id (node_of span) in let b = w.total_is in let c = fresh.count in omega arith);
@@ -177,7 +179,7 @@ IsConsistent-added es new max total handles id span w absent fresh room s n few 
 -- a bound on counts may be raised
 pub room_below : (es : List (ℕ × Span)) (max high : ℕ) (o : Option ℕ) → max ≤ high → HasRoomAbove es max o → HasRoomAbove es high o
 room_below es max high None le room = room
-room_below es max high (Some p) le room = above_below (value_at es p) max high le room
+room_below es max high (Some p) le room = above_below (find es p) max high le room
 
 -- why a parent may have no child is why no span is added under it
 pub why_added : (forest : ForestView) (parent : Option ℕ) (fault : Fault) → WhyNoChild forest.spans forest.max_count parent fault → WhyNotAdded forest parent fault

@@ -1,6 +1,7 @@
 -- Walks that end give each open span a rank, the length of its walk, which falls along each walk.
 use Rattle.std.proofs.Common.{◌≡◌, ℕ, zero, suc, ◌<◌, ◌≤◌, ◌∷◌, length, Option, Some, None, refl, ap, subst, arith}
-use Rattle.span_forest.specs.Spans.{Spans, IsOpen, AreApart, parent_of}
+use Rattle.span_slots.specs.Table.{AreApart}
+use Rattle.span_forest.specs.Spans.{Spans, IsOpen, parent_of}
 use Rattle.span_forest.specs.Walk.{walk_within, walk, Ends}
 use Rattle.span_forest.specs.Forest.{IsForest}
 use Rattle.span_forest.proofs.Finds.{child_open}

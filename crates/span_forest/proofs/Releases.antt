@@ -7,7 +7,8 @@ use Rattle.std.proofs.lemmas.Bool.{cases_Bool, cases_lt, eq-eqb, false≢true}
 use Rattle.span_forest.specs.declared.span.Holder.{Holder}
 use Rattle.span_forest.specs.declared.span.Holder.TheVariants.{Handle, Entry}
 use Rattle.span_forest.specs.Node.{Node}
-use Rattle.span_forest.specs.Spans.{Spans, find, IsOpen, parent_in, parent_of}
+use Rattle.span_slots.specs.Table.{find}
+use Rattle.span_forest.specs.Spans.{Spans, IsOpen, parent_in, parent_of}
 use Rattle.span_forest.specs.Count.{holders_in}
 use Rattle.span_forest.specs.Forest.{IsForest}
 use Rattle.span_forest.specs.Live.{is_live, live_part}

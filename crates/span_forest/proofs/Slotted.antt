@@ -7,13 +7,13 @@ use Rattle.std.proofs.lemmas.List.{get_or-set_same, get_or-set_other, get_or_app
 use Rattle.std.specs.Option.{option_map}
 use Rattle.std.specs.List.{list_any}
 use Rattle.span_id.specs.Id.{id_of, slot_of, generation_of}
-use Rattle.span_slots.specs.Table.{Table, issue, value_at, next_id, IsIssued, IsFull, is_occupied, is_retired}
+use Rattle.span_slots.specs.Table.{Table, issue, find, next_id, IsIssued, IsFull, is_occupied, is_retired, with_entry}
 use Rattle.span_forest.specs.declared.span.Span.{Span}
 use Rattle.span_forest.specs.Node.{Node, node_of}
-use Rattle.span_forest.specs.Spans.{Spans, find, IsOpen, IsOccupied, with_node, nodes_of}
+use Rattle.span_forest.specs.Spans.{Spans, IsOpen, IsOccupied, nodes_of}
 use Rattle.span_forest.specs.Forest.{ForestView, table_of, next_span_id}
 use Rattle.span_forest.proofs.Nodes.{find-nodes}
-use Rattle.span_forest.proofs.Adds.{find-with_same}
+use Rattle.span_slots.proofs.Entries.{find-with_same}
 use Rattle.span_forest.proofs.Counts.{view_of}
 
 some_back : (o : Option Span) → IsSome (option_map node_of o) → IsSome o
@@ -21,8 +21,8 @@ some_back None h = cc
 some_back (Some s) h = refl
 
 -- an open id has a value in the code's table
-pub open_value : (es : List (ℕ × Span)) (id : ℕ) → IsOpen (nodes_of es) id → IsSome (value_at es id)
-open_value es id o = some_back (value_at es id) (subst IsSome (find-nodes es id) o)
+pub open_value : (es : List (ℕ × Span)) (id : ℕ) → IsOpen (nodes_of es) id → IsSome (find es id)
+open_value es id o = some_back (find es id) (subst IsSome (find-nodes es id) o)
 
 occupied_nodes : (t : Table Span) (max slot : ℕ) → is_occupied (table_of (view_of t max)) slot ≡ is_occupied t slot
 occupied_nodes t max slot = occupied t.entries where
@@ -83,7 +83,7 @@ full_in_words forest h = (
     issued_so n m t = grind (arith, nat_tests)
 
 -- a new id that isn't open finds its span
-pub found_next : (next : Option ℕ) (spans : Spans) (node : Node) → IfSome next (λ id. find spans id ≡ None) → IfSome next (λ id. find (with_node spans id node) id ≡ Some node)
+pub found_next : (next : Option ℕ) (spans : Spans) (node : Node) → IfSome next (λ id. find spans id ≡ None) → IfSome next (λ id. find (with_entry spans id node) id ≡ Some node)
 found_next None spans node h = tt
 found_next (Some id) spans node h = find-with_same spans id node h
 
@@ -92,7 +92,7 @@ absent None h = refl
 absent (Some node) h = absurd (h refl)
 
 -- an id that was never issued isn't open, where each open one was issued
-pub never_open : (next : Option ℕ) (es : List (ℕ × Span)) (Issued : ℕ → Type 0) → IfSome next (λ id. Issued id → ⊥) → ((id : ℕ) → IsSome (value_at es id) → Issued id) → IfSome next (λ id. find (nodes_of es) id ≡ None)
+pub never_open : (next : Option ℕ) (es : List (ℕ × Span)) (Issued : ℕ → Type 0) → IfSome next (λ id. Issued id → ⊥) → ((id : ℕ) → IsSome (find es id) → Issued id) → IfSome next (λ id. find (nodes_of es) id ≡ None)
 never_open None es Issued fresh issued = tt
 never_open (Some id) es Issued fresh issued = absent (find (nodes_of es) id) (λ o. fresh (issued id (open_value es id o)))
 

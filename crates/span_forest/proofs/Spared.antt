@@ -4,7 +4,8 @@ use Rattle.std.proofs.lemmas.Bool.Decides.{nat_tests, eqb_tells}
 use Rattle.std.proofs.lemmas.Bool.{cases_Bool, false≢true}
 use Rattle.span_forest.specs.declared.span.Holder.{Holder}
 use Rattle.span_forest.specs.Node.{Node}
-use Rattle.span_forest.specs.Spans.{Spans, find, IsOpen, parent_of, with_change}
+use Rattle.span_slots.specs.Table.{find}
+use Rattle.span_forest.specs.Spans.{Spans, IsOpen, parent_of, with_change}
 use Rattle.span_forest.specs.Walk.{walk_within, walk}
 use Rattle.span_forest.specs.Count.{holders, is_held, holders_in, reference_count}
 use Rattle.span_forest.specs.Live.{stands_in, is_live, live_part}

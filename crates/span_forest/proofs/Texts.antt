@@ -2,7 +2,7 @@
 use Rattle.std.proofs.Common.{◌≡◌, ℕ, ◌<◌, ◌++◌, ◌↔◌, ◌+◌, true, List, [], ◌∷◌, length, map, get_or, drop, append_assoc, add-one, drop-cons, Option, Some, refl, sym, ap, ◌∙◌, cond, rules}
 use Rattle.std.specs.Prelude.{flat_map}
 use Rattle.span_id.specs.Bits.{has_bit}
-use Rattle.span_slots.specs.Table.{value_at}
+use Rattle.span_slots.specs.Table.{find}
 use Rattle.span_forest.specs.declared.span.Span.{Span}
 use Rattle.span_forest.specs.Node.{node_of}
 use Rattle.span_forest.specs.Spans.{Spans, IsOpen, nodes_of}
@@ -44,7 +44,7 @@ pub Sees_none : (spans : Spans) (layer id same : ℕ) → ((other : ℕ) → oth
 Sees_none spans layer id same all o =
     record { gathers = Gathers_none spans layer id o; alike = λ other _. Gathers_none spans other id o; own = all layer }
 
-pub Sees_turn : (es : List (ℕ × Span)) (layer id at : ℕ) (span : Span) (names more : List (List ℕ)) (same left : ℕ) (next : Option ℕ) → IsForest (nodes_of es) → Sees (nodes_of es) layer id names same next → next ≡ Some at → value_at es at ≡ Some span → more ≡ names ++ name_for layer (Some (node_of span)) → ((other : ℕ) → (has_bit left other ≡ true) ↔ ((has_bit same other ≡ true) × (has_bit span.bits.0 other ≡ has_bit span.bits.0 layer))) → Sees (nodes_of es) layer id more left span.parent
+pub Sees_turn : (es : List (ℕ × Span)) (layer id at : ℕ) (span : Span) (names more : List (List ℕ)) (same left : ℕ) (next : Option ℕ) → IsForest (nodes_of es) → Sees (nodes_of es) layer id names same next → next ≡ Some at → find (nodes_of es) at ≡ Some (node_of span) → more ≡ names ++ name_for layer (Some (node_of span)) → ((other : ℕ) → (has_bit left other ≡ true) ↔ ((has_bit same other ≡ true) × (has_bit span.bits.0 other ≡ has_bit span.bits.0 layer))) → Sees (nodes_of es) layer id more left span.parent
 Sees_turn es layer id at span names more same left next forest sees is found taken stays = record {
   gathers = (Gathers_turn es layer id at span names more next forest sees.gathers is found taken).gathers;
   alike = λ other h.

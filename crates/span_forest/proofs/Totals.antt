@@ -5,8 +5,8 @@ use Rattle.std.proofs.lemmas.Bool.Decides.{eqb_tells}
 use Rattle.std.proofs.lemmas.Bool.{cases_Bool, cases_lt, false≢true, eq-eqb}
 use Rattle.span_id.specs.Id.{slot_of}
 use Rattle.span_forest.specs.Node.{Node}
-use Rattle.span_forest.specs.inside.Chain.{without}
-use Rattle.span_forest.specs.Spans.{Spans, nodes_of, find, AreApart, with_node, with_change}
+use Rattle.span_slots.specs.Table.{without_entry, find, with_entry, AreApart}
+use Rattle.span_forest.specs.Spans.{Spans, nodes_of, with_change}
 use Rattle.span_forest.specs.Count.{holders, holders_in, total_held, total_handles}
 use Rattle.std.proofs.Common.{ltb}
 
@@ -58,7 +58,7 @@ module _ (weight : Node → ℕ) where
         | inr t ↦ rw t.0 (omega (arith, r))
       ]
 
-  pub weighed-with : (spans : Spans) (id : ℕ) (node : Node) → weighed weight (with_node spans id node) ≡ weighed weight spans + weight node
+  pub weighed-with : (spans : Spans) (id : ℕ) (node : Node) → weighed weight (with_entry spans id node) ≡ weighed weight spans + weight node
   weighed-with [] id node = omega arith
   weighed-with (e ∷ es) id node =
       let r = weighed-with es id node in
@@ -88,12 +88,12 @@ total-changed f spans id node a h =
     let is = weighed-changed holders f spans id node a h in
     omega (arith, is, held_weighed spans, held_weighed (with_change f spans id))
 
-pub total-with : (spans : Spans) (id : ℕ) (node : Node) → total_held (with_node spans id node) ≡ total_held spans + holders node
+pub total-with : (spans : Spans) (id : ℕ) (node : Node) → total_held (with_entry spans id node) ≡ total_held spans + holders node
 total-with spans id node =
     let is = weighed-with holders spans id node in
-    omega (arith, is, held_weighed spans, held_weighed (with_node spans id node))
+    omega (arith, is, held_weighed spans, held_weighed (with_entry spans id node))
 
-without_absent_total : (spans : Spans) (id : ℕ) → find spans id ≡ None → total_held (without spans id) ≡ total_held spans
+without_absent_total : (spans : Spans) (id : ℕ) → find spans id ≡ None → total_held (without_entry spans id) ≡ total_held spans
 without_absent_total [] id h = refl
 without_absent_total (e ∷ es) id h =
     elim (eqb_tells e.0 id) [
@@ -101,7 +101,7 @@ without_absent_total (e ∷ es) id h =
       | inr t ↦ (let r = without_absent_total es id (rw t.0 at h) in rw t.0 (omega arith))
     ]
 
-pub total-without : (spans : Spans) (id : ℕ) → AreApart spans → holders_in (find spans id) ≡ 0 → total_held (without spans id) ≡ total_held spans
+pub total-without : (spans : Spans) (id : ℕ) → AreApart spans → holders_in (find spans id) ≡ 0 → total_held (without_entry spans id) ≡ total_held spans
 total-without [] id a z = refl
 total-without (e ∷ es) id a z =
     elim (eqb_tells e.0 id) [

@@ -6,7 +6,8 @@ use Rattle.std.proofs.lemmas.Bool.Decides.{nat_tests, eqb_tells}
 use Rattle.std.proofs.lemmas.Bool.{cases_Bool, cases_lt, eq-eqb}
 use Rattle.span_forest.specs.declared.span.Holder.{Holder}
 use Rattle.span_forest.specs.Node.{Node}
-use Rattle.span_forest.specs.Spans.{Spans, find, IsOpen, AreApart, parent_in, parent_of, with_change, with_node}
+use Rattle.span_slots.specs.Table.{find, with_entry, AreApart}
+use Rattle.span_forest.specs.Spans.{Spans, IsOpen, parent_in, parent_of, with_change}
 use Rattle.span_forest.specs.Walk.{walk}
 use Rattle.span_forest.specs.Count.{holders, holders_in, is_held, children, reference_count, total_held}
 use Rattle.span_forest.specs.Forest.{IsForest}
@@ -17,7 +18,8 @@ use Rattle.span_forest.proofs.Ranks.{IsRanked, ranked}
 use Rattle.span_forest.proofs.Walks.{OnWalk, forest_from, OnWalk-from_stands, Live-from_is_live, is_live-from_Live, all_live, here, above}
 use Rattle.span_forest.proofs.Finds.{no_child, child_open}
 use Rattle.span_forest.proofs.Nodes.{with_less-parent, find-changed_same, find-changed_other, parent_of-changed, IsForest-changed, IsOpen-changed, children-changed}
-use Rattle.span_forest.proofs.Adds.{find-with_same, find-with_other, children-with, IsRanked-with, open_back}
+use Rattle.span_slots.proofs.Entries.{find-with_same, find-with_other}
+use Rattle.span_forest.proofs.Adds.{children-with, IsRanked-with, open_back}
 use Rattle.span_forest.proofs.Spared.{kept_passes, passing_kept, parent_live, none_open, stands_unfiltered}
 
 -- a forest in which something holds each open span
@@ -42,9 +44,9 @@ upheld_empty = record {
 }
 
 -- a new span that has a holder
-pub upheld_with : (spans : Spans) (id : ℕ) (node : Node) → IsUpheld spans → find spans id ≡ None → ((p : ℕ) → node.parent ≡ Some p → IsOpen spans p) → 0 < holders node → IsUpheld (with_node spans id node)
+pub upheld_with : (spans : Spans) (id : ℕ) (node : Node) → IsUpheld spans → find spans id ≡ None → ((p : ℕ) → node.parent ≡ Some p → IsOpen spans p) → 0 < holders node → IsUpheld (with_entry spans id node)
 upheld_with spans id node w absent parent held = record {
-  forest = forest_from (with_node spans id node) (IsRanked-with spans id node (ranked spans w.forest) absent parent);
+  forest = forest_from (with_entry spans id node) (IsRanked-with spans id node (ranked spans w.forest) absent parent);
   positive = λ j o. elim (eqb_tells j id) [
     | inl t ↦ rw t.1 (let here = ap holders_in (find-with_same spans id node absent) in omega (arith, here, held))
     | inr t ↦ (let before = w.positive j (open_back spans id j node t.1 o) in

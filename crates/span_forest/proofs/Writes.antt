@@ -1,18 +1,19 @@
 -- A write of one span that leaves its parent and its holders as they are.
-use Rattle.std.proofs.Common.{◌≡◌, ℕ, ◌++◌, List, [], ◌∷◌, length, Option, Some, None, IsSome, refl, sym, ap, ◌∙◌, inl, inr, arith}
+use Rattle.std.proofs.Common.{◌≡◌, ℕ, ◌++◌, List, [], ◌∷◌, length, Option, Some, None, IsSome, refl, sym, ap, subst, ◌∙◌, inl, inr, arith}
 use Rattle.std.specs.Prelude.{Result, Ok, Err, OnOk, OnErr, IfErr}
 use Rattle.std.specs.Option.{option_map}
 use Rattle.std.proofs.lemmas.Bool.Decides.{eqb_tells}
-use Rattle.span_slots.specs.Table.{value_at, with_value}
+use Rattle.span_slots.specs.Table.{find, with_value}
 use Rattle.span_id.specs.declared.fault.Fault.{Fault}
 use Rattle.span_id.specs.declared.fault.Fault.TheVariants.{Memory}
 use Rattle.span_forest.specs.declared.span.Span.{Span}
 use Rattle.span_forest.specs.Node.{Node, node_of, with_fields}
-use Rattle.span_forest.specs.Spans.{Spans, find, IsOpen, nodes_of, with_change, WhyNotFound}
+use Rattle.span_forest.specs.Spans.{Spans, IsOpen, nodes_of, with_change, WhyNotFound}
 use Rattle.span_forest.specs.Count.{holders, holders_in, reference_count, total_held}
 use Rattle.span_forest.specs.inside.Invariant.{IsSettled, IsConsistent}
 use Rattle.span_forest.proofs.Nodes.{find-changed_same, find-changed_other, children-changed, IsOpen-changed, IsForest-changed}
-use Rattle.span_forest.proofs.Counts.{value_at-with_value_same, value_at-with_value_other, nodes-written, changed_none, some_same}
+use Rattle.span_slots.proofs.Entries.{find-with_value_same, find-with_value_other}
+use Rattle.span_forest.proofs.Counts.{nodes-written, changed_none, some_same}
 use Rattle.span_forest.proofs.Totals.{length-nodes, length-changed}
 use Rattle.span_forest.proofs.Handles.{handles-same}
 
@@ -31,17 +32,17 @@ module _ (f : Node → Node) (same_parent : (n : Node) → (f n).parent ≡ n.pa
         | inr t ↦ (let a = ap holders_in (find-changed_other f spans id j t.1) in omega arith)
       ]
 
-  pub IsSettled-written : (es : List (ℕ × Span)) (id : ℕ) (span new : Span) → IsSettled es → value_at es id ≡ Some span → node_of new ≡ f (node_of span) → new.count ≡ span.count → IsSettled (with_value es id new)
+  pub IsSettled-written : (es : List (ℕ × Span)) (id : ℕ) (span new : Span) → IsSettled es → find es id ≡ Some span → node_of new ≡ f (node_of span) → new.count ≡ span.count → IsSettled (with_value es id new)
   IsSettled-written es id span new w h e q =
       let n = nodes-written f es id span new w.forest.ids_apart h e in
       record {
         forest = rw n (IsForest-changed f same_parent (nodes_of es) id w.forest);
         counted = λ j s g. rw n (let k = written-changed (nodes_of es) id j in elim (eqb_tells j id) [
-          | inl t ↦ (let a = some_same s new (value_at (with_value es id new) j) g (rw t.1 (value_at-with_value_same es id span new h)) in
+          | inl t ↦ (let a = some_same s new (find (with_value es id new) j) g (rw t.1 (find-with_value_same es id new (subst IsSome (sym h) refl))) in
               let b = w.counted j span (rw t.1 h) in
               let c = ap (λ (x : Span). x.count) a in
               omega arith)
-          | inr t ↦ (let b = w.counted j s (sym (value_at-with_value_other es id j new t.1) ∙ g) in omega arith)
+          | inr t ↦ (let b = w.counted j s (sym (find-with_value_other es id j new t.1) ∙ g) in omega arith)
         ]);
         positive = λ j o. rw n (let k = written-changed (nodes_of es) id j in
             let b = w.positive j (IsOpen-changed f (nodes_of es) id j (rw n at o)) in omega arith);
@@ -91,15 +92,15 @@ module _ (es : List (ℕ × Span)) (id : ℕ) (span : Span) (new more : List (Li
   refielded_node : (fields : List (List ℕ × List ℕ)) → new ≡ fields → node_of (refielded span new) ≡ record (node_of span) { fields = fields }
   refielded_node fields h = ap (λ fields. record (node_of span) { fields = fields }) h
 
-  pub settled_appended : {R E : Type 0} (r : Result R E) → IsSettled es → value_at es id ≡ Some span → OnOk r (new ≡ span.fields ++ more) → OnErr r (new ≡ span.fields) → IsSettled (with_value es id (refielded span new))
+  pub settled_appended : {R E : Type 0} (r : Result R E) → IsSettled es → find es id ≡ Some span → OnOk r (new ≡ span.fields ++ more) → OnErr r (new ≡ span.fields) → IsSettled (with_value es id (refielded span new))
   settled_appended (Ok v) w f h k = IsSettled-written (with_fields more) (with_fields-parent more) (with_fields-holders more) es id span (refielded span new) w f (refielded_node (span.fields ++ more) h) refl
   settled_appended (Err v) w f h k = IsSettled-written (λ n. n) (λ n. refl) (λ n. refl) es id span (refielded span new) w f (refielded_node span.fields k) refl
 
-  pub written_appended : {R E : Type 0} (r : Result R E) → IsSettled es → value_at es id ≡ Some span → OnOk r (new ≡ span.fields ++ more) → OnOk r (nodes_of (with_value es id (refielded span new)) ≡ with_change (with_fields more) (nodes_of es) id)
+  pub written_appended : {R E : Type 0} (r : Result R E) → IsSettled es → find es id ≡ Some span → OnOk r (new ≡ span.fields ++ more) → OnOk r (nodes_of (with_value es id (refielded span new)) ≡ with_change (with_fields more) (nodes_of es) id)
   written_appended (Ok v) w f h = nodes-written (with_fields more) es id span (refielded span new) w.forest.ids_apart f (refielded_node (span.fields ++ more) h)
   written_appended (Err v) w f h = tt
 
-  pub refused_appended : {R E : Type 0} (r : Result R E) → IsSettled es → value_at es id ≡ Some span → OnErr r (new ≡ span.fields) → OnErr r (nodes_of (with_value es id (refielded span new)) ≡ nodes_of es)
+  pub refused_appended : {R E : Type 0} (r : Result R E) → IsSettled es → find es id ≡ Some span → OnErr r (new ≡ span.fields) → OnErr r (nodes_of (with_value es id (refielded span new)) ≡ nodes_of es)
   refused_appended (Ok v) w f h = tt
   refused_appended (Err v) w f h = nodes-written (λ n. n) es id span (refielded span new) w.forest.ids_apart f (refielded_node span.fields h) ∙ changed_none (nodes_of es) id
 

@@ -1,11 +1,11 @@
 -- A new span.
 use Rattle.std.specs.Prelude.{ℕ, ◌≡◌, ◌<◌, Option, None, IsSomeAnd, MatchOption, drop}
-use Rattle.span_slots.specs.Table.{issue}
+use Rattle.span_slots.specs.Table.{issue, find, with_entry}
 use Rattle.span_id.specs.Id.{slot_of}
 use Rattle.span_id.specs.declared.fault.Fault.{Fault}
 use Rattle.span_id.specs.declared.fault.Fault.TheVariants.{Unknown, CountFull, Full}
 use Rattle.span_forest.specs.Node.{Node}
-use Rattle.span_forest.specs.Spans.{Spans, find, IsOpen, with_node}
+use Rattle.span_forest.specs.Spans.{Spans, IsOpen}
 use Rattle.span_forest.specs.Count.{reference_count}
 use Rattle.span_forest.specs.Forest.{ForestView, next_span_id}
 
@@ -17,7 +17,7 @@ CanHaveChild spans max_count parent =
 -- the forest with one span more under this id, whose slot has given one id more
 abbrev pub with_span : ForestView → ℕ → Node → ForestView
 with_span forest id node = record forest {
-  spans = with_node forest.spans id node;
+  spans = with_entry forest.spans id node;
   given = issue forest.given (slot_of id);
   freed = drop 1 forest.freed;
 }

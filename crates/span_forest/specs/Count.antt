@@ -1,7 +1,8 @@
 -- What holds a span: its holders, which are handles and entries, and its open children.
 use Rattle.std.specs.Prelude.{ℕ, ◌+◌, ◌==◌, Bool, false, cond, nat_lt, [], ◌∷◌, Option, Some, None}
 use Rattle.span_forest.specs.Node.{Node}
-use Rattle.span_forest.specs.Spans.{Spans, find}
+use Rattle.span_slots.specs.Table.{find}
+use Rattle.span_forest.specs.Spans.{Spans}
 
 -- how many handles and entries hold a span
 abbrev pub holders : Node → ℕ
@@ -16,15 +17,15 @@ abbrev pub holders_in : Option Node → ℕ
 holders_in None = 0
 holders_in (Some node) = holders node
 
--- there is an id, and it is this one
-abbrev pub is_some_id : Option ℕ → ℕ → Bool
-is_some_id None id = false
-is_some_id (Some parent) id = parent == id
+-- the parent of a span, if it has one, is this id
+abbrev pub is_parent : Option ℕ → ℕ → Bool
+is_parent None id = false
+is_parent (Some parent) id = parent == id
 
 -- how many open spans have this parent
 abbrev pub children : Spans → ℕ → ℕ
 children [] id = 0
-children (e ∷ es) id = cond (is_some_id e.1.parent id) 1 0 + children es id
+children (e ∷ es) id = cond (is_parent e.1.parent id) 1 0 + children es id
 
 -- the reference count of a span: its holders, and the open spans whose parent it is
 abbrev pub reference_count : Spans → ℕ → ℕ

@@ -1,8 +1,8 @@
 -- A forest of spans.
 use Rattle.std.specs.Prelude.{ℕ, ◌≡◌, List, length, Option, Some}
-use Rattle.span_slots.specs.Table.{Table, next_id}
+use Rattle.span_slots.specs.Table.{Table, next_id, AreApart}
 use Rattle.span_forest.specs.Node.{Node}
-use Rattle.span_forest.specs.Spans.{Spans, IsOpen, AreApart, parent_of}
+use Rattle.span_forest.specs.Spans.{Spans, IsOpen, parent_of}
 use Rattle.span_forest.specs.Walk.{Ends}
 
 -- a forest: a finite map from ids to spans in which each parent is, and whose walks all end at a root

@@ -3,7 +3,8 @@ use Rattle.std.specs.Prelude.{ℕ, ◌+◌, ◌-◌, ◌<◌, Option, Some, None
 use Rattle.span_forest.specs.declared.span.Holder.{Holder}
 use Rattle.span_forest.specs.declared.span.Holder.TheVariants.{Handle, Entry}
 use Rattle.span_forest.specs.Node.{Node}
-use Rattle.span_forest.specs.Spans.{Spans, find}
+use Rattle.span_slots.specs.Table.{find}
+use Rattle.span_forest.specs.Spans.{Spans}
 
 -- how many holders of a kind a span has
 abbrev pub held_by : Holder → Node → ℕ

@@ -3,6 +3,7 @@ use Rattle.std.specs.Prelude.{ℕ, ◌+◌, ◌≡◌, Bool, true, false, ◌&&�
 use Rattle.span_forest.specs.declared.span.Holder.{Holder}
 use Rattle.span_forest.specs.declared.span.Holder.TheVariants.{Handle, Entry}
 use Rattle.span_forest.specs.declared.holding.Held.{Held}
+pub use Rattle.span_slots.specs.Table.{all_ids}
 use Rattle.span_forest.specs.Node.{Node}
 use Rattle.span_forest.specs.Spans.{Spans}
 use Rattle.span_forest.specs.Walk.{walk}
@@ -10,10 +11,6 @@ use Rattle.span_forest.specs.Count.{is_held}
 use Rattle.span_forest.specs.Holders.{IsHeld}
 use Rattle.span_forest.specs.Release.{spans_left}
 use Rattle.span_forest.specs.Live.{stands_in}
-
--- the ids of the open spans
-abbrev pub open_ids : Spans → List ℕ
-open_ids spans = map (λ e. e.0) spans
 
 -- a span with how many handles and how many entries it has
 abbrev pub held_of : ℕ × Node → Held

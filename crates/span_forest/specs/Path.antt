@@ -3,7 +3,8 @@ use Rattle.std.specs.Prelude.{ℕ, List, [], ◌∷◌, ◌++◌, cond, Option, 
 use Rattle.std.specs.List.{join_with_byte}
 use Rattle.span_id.specs.Bits.{has_bit}
 use Rattle.span_forest.specs.Node.{Node}
-use Rattle.span_forest.specs.Spans.{Spans, find}
+use Rattle.span_slots.specs.Table.{find}
+use Rattle.span_forest.specs.Spans.{Spans}
 use Rattle.span_forest.specs.Walk.{walk}
 
 -- the name of a span that the layer admits, else nothing

@@ -1,8 +1,8 @@
 -- The release of one holder: it is taken out, and the spans that are no longer live are gone.
-use Rattle.std.specs.Prelude.{ℕ, cond, not, nat_le, List, [], ◌∷◌, filter, slice_index}
-use Rattle.span_id.specs.Id.{slot_of}
+use Rattle.std.specs.Prelude.{ℕ, not, List, filter, fold}
 use Rattle.span_id.specs.declared.fault.Fault.{Fault}
 use Rattle.span_id.specs.declared.fault.Fault.TheVariants.{Unknown, Memory}
+use Rattle.span_slots.specs.Table.{freed_with}
 use Rattle.span_forest.specs.declared.span.Holder.{Holder}
 use Rattle.span_forest.specs.Spans.{Spans, with_change}
 use Rattle.span_forest.specs.Walk.{walk}
@@ -25,12 +25,9 @@ gone_on_walk spans id = filter (λ s. not (is_live spans s)) (walk spans id)
 abbrev pub closing_list : Spans → ℕ → Holder → List ℕ
 closing_list spans id holder = gone_on_walk (without_holder spans id holder) id
 
--- the freed slots after these ids closed one after the other: a slot whose id was its last is not freed
+-- the freed slots after these ids closed one after the other
 abbrev pub freed_after : ℕ → List ℕ → List ℕ → List ℕ → List ℕ
-freed_after last_generation given freed [] = freed
-freed_after last_generation given freed (id ∷ ids) =
-    freed_after last_generation given (cond (nat_le (slice_index given (slot_of id)) last_generation)
-    (slot_of id ∷ freed) freed) ids
+freed_after last_generation given freed ids = fold (freed_with last_generation given) freed ids
 
 -- why a release is refused: the span has no holder of this kind, else there was no memory for the list
 abbrev pub WhyNotReleased : Spans → ℕ → Holder → Fault → Type 0

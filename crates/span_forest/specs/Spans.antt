@@ -1,6 +1,7 @@
 -- The open spans: a finite map from ids to spans, as pairs by ascending slot.
-use Rattle.std.specs.Prelude.{ℕ, ◌≡◌, ◌==◌, cond, nat_lt, List, [], ◌∷◌, map, Option, Some, None, IsSome}
+use Rattle.std.specs.Prelude.{ℕ, ◌≡◌, ◌==◌, cond, List, map, Option, Some, None, IsSome}
 use Rattle.span_id.specs.Id.{slot_of}
+pub use Rattle.span_slots.specs.Table.{find, with_entry, AreApart}
 use Rattle.span_id.specs.declared.fault.Fault.{Fault}
 use Rattle.span_id.specs.declared.fault.Fault.TheVariants.{Unknown, Memory}
 use Rattle.span_forest.specs.declared.span.Span.{Span}
@@ -10,11 +11,6 @@ use Rattle.span_forest.specs.Node.{Node, node_of}
 abbrev pub Spans : Type 0
 Spans = List (ℕ × Node)
 
--- the span of an id, if there is one
-abbrev pub find : Spans → ℕ → Option Node
-find [] id = None
-find (e ∷ es) id = cond (e.0 == id) (Some e.1) (find es id)
-
 -- a span is open where it is in the map
 abbrev pub IsOpen : Spans → ℕ → Type 0
 IsOpen spans id = IsSome (find spans id)
@@ -22,11 +18,6 @@ IsOpen spans id = IsSome (find spans id)
 -- some open span has the slot
 abbrev pub IsOccupied : Spans → ℕ → Type 0
 IsOccupied spans slot = (id : ℕ) × IsOpen spans id × (slot_of id ≡ slot)
-
--- no id stands twice
-abbrev pub AreApart : Spans → Type 0
-AreApart [] = Unit {0}
-AreApart (e ∷ es) = (find es e.0 ≡ None) × AreApart es
 
 -- the parent, where there is a span and it has one
 abbrev pub parent_in : Option Node → Option ℕ
@@ -36,12 +27,6 @@ parent_in (Some node) = node.parent
 -- the parent of a span, if it is open and has one
 abbrev pub parent_of : Spans → ℕ → Option ℕ
 parent_of spans id = parent_in (find spans id)
-
--- the map with one span more, at its slot's place
-abbrev pub with_node : Spans → ℕ → Node → Spans
-with_node [] id node = (id, node) ∷ []
-with_node (e ∷ es) id node =
-    cond (nat_lt (slot_of id) (slot_of e.0)) ((id, node) ∷ e ∷ es) (e ∷ with_node es id node)
 
 -- the map with a change of one span
 abbrev pub with_change : (Node → Node) → Spans → ℕ → Spans

@@ -1,8 +1,8 @@
 ghost use Rattle.std.specs.Prelude.{◌≡◌, ℕ, ◌<◌, ◌≤◌, ◌↔◌, ◌⊎◌, Some, IsSome, IsSomeAnd, MatchOption, IfOk, IfErr, OnOk, drop, length};
-ghost use Rattle.span_slots.specs.Table.{value_at, next_id, issue, IsIssued};
+ghost use Rattle.span_slots.specs.Table.{find, next_id, issue, IsIssued, with_entry};
 ghost use Rattle.span_id.specs.Id.{slot_of, IsId};
 ghost use Rattle.span_forest.specs.Node.{node_of};
-ghost use Rattle.span_forest.specs.Spans.{nodes_of, with_node};
+ghost use Rattle.span_forest.specs.Spans.{nodes_of};
 ghost use Rattle.span_forest.specs.Count.{reference_count};
 ghost use Rattle.span_forest.specs.inside.Invariant.{AreCounted, IsSettled};
 ghost use Rattle.span_forest.specs.Add.{CanHaveChild};
@@ -47,8 +47,8 @@ pub(crate) fn place(slots: &mut Slots<Span>, span: Span) -> Id
     requires above { HasRoomAbove slots.old.entries 4294967295 span.parent }
     ensures id { next_id slots.old ≡ Some result }
     ensures settled { IsSettled slots.new.entries }
-    ensures nodes { nodes_of slots.new.entries ≡ with_node (nodes_of slots.old.entries) result (node_of span) }
-    ensures vacant { value_at slots.old.entries result ≡ None }
+    ensures nodes { nodes_of slots.new.entries ≡ with_entry (nodes_of slots.old.entries) result (node_of span) }
+    ensures vacant { find slots.old.entries result ≡ None }
     ensures never_issued { IsIssued slots.old result → ⊥ }
     ensures issued { (other : ℕ) → IsId other →
         (IsIssued slots.new other ↔ (IsIssued slots.old other ⊎ (result ≡ other))) }

@@ -1,5 +1,5 @@
 ghost use Rattle.std.specs.Prelude.{◌≡◌, ◌≤◌, Some, IfOk};
-ghost use Rattle.span_slots.specs.Table.{freed_with};
+ghost use Rattle.span_slots.specs.Table.{freed_with, without_entry};
 ghost use Rattle.span_id.specs.Id.{slot_of};
 ghost use Rattle.span_forest.specs.Spans.{IsOpen, nodes_of, parent_of};
 ghost use Rattle.span_forest.specs.Count.{children, reference_count};
@@ -7,7 +7,7 @@ ghost use Rattle.span_forest.specs.Forest.{IsForest};
 ghost use Rattle.span_forest.specs.Holders.{IsHeld};
 ghost use Rattle.span_forest.specs.Release.{without_holder, freed_after};
 ghost use Rattle.span_forest.specs.inside.Invariant.{AreCounted, IsSettled};
-ghost use Rattle.span_forest.specs.inside.Chain.{without, without_all, Chain};
+ghost use Rattle.span_forest.specs.inside.Chain.{without_all, Chain};
 
 use crate::holders::{drop_holder, lower};
 use crate::span::{Holder, Span};
@@ -102,11 +102,11 @@ fn close_one(slots: &mut Slots<Span>, id: Id)
     requires counted { AreCounted slots.old.entries }
     requires open { IsOpen (nodes_of slots.old.entries) id }
     requires leaf { children (nodes_of slots.old.entries) id ≡ 0 }
-    ensures nodes { nodes_of slots.new.entries ≡ without (nodes_of slots.old.entries) id }
+    ensures nodes { nodes_of slots.new.entries ≡ without_entry (nodes_of slots.old.entries) id }
     ensures counted { AreCounted slots.new.entries }
     ensures table { slots.new ≡ record slots.old {
       entries = slots.new.entries;
-      freed = freed_with slots.old (slot_of id);
+      freed = freed_with slots.old.last_generation slots.old.given slots.old.freed id;
     } }
 {
     let Some(span) = slots.remove(id) else {

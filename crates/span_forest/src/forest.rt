@@ -1,17 +1,17 @@
 ghost use Rattle.std.specs.Prelude.{◌≡◌, ℕ, ◌<◌, Some, None, IfSome, IfNone, IfOk, IfErr, OnOk, OnErr, IsTrue, ◌↔◌, ◌⊎◌, ◌++◌, ◌∷◌, length, [], map, string_bytes};
 ghost use Rattle.span_id.specs.Id.{IsId};
 ghost use Rattle.span_id.specs.Bits.{has_bit};
-ghost use Rattle.span_slots.specs.Table.{IsIssued};
+ghost use Rattle.span_slots.specs.Table.{IsIssued, find, all_ids};
 ghost use Rattle.span_id.specs.Meta.{plain_fields};
 ghost use Rattle.span_forest.specs.Node.{Node, node_of, new_node, with_fields};
-ghost use Rattle.span_forest.specs.Spans.{find, parent_of, IsOpen, with_change, WhyNotFound};
+ghost use Rattle.span_forest.specs.Spans.{parent_of, IsOpen, with_change, WhyNotFound};
 ghost use Rattle.span_forest.specs.Count.{reference_count, total_held, total_handles};
 ghost use Rattle.span_forest.specs.Path.{path, path_text};
 ghost use Rattle.span_forest.specs.Forest.{next_span_id, table_of};
 ghost use Rattle.span_forest.specs.Holders.{IsHeld};
 ghost use Rattle.span_forest.specs.Keep.{with_holder, CanKeep, WhyNotKept};
 ghost use Rattle.span_forest.specs.Release.{closing_list, spans_left, freed_after, WhyNotReleased};
-ghost use Rattle.span_forest.specs.Holding.{open_ids, held_spans, what_holds};
+ghost use Rattle.span_forest.specs.Holding.{held_spans, what_holds};
 ghost use Rattle.span_forest.specs.Add.{CanHaveChild, with_span, WhyNotAdded};
 
 pub mod laws;
@@ -136,7 +136,7 @@ impl Forest {
 
     /// The ids of the open spans, by ascending slot. It looks at each slot that was ever used. The only error is `Memory`.
     pub fn open_spans(&self) -> Result<Vec<Id>, Fault>
-        ensures ids { IfOk result (λ ids. ids.items ≡ open_ids self.now.spans) }
+        ensures ids { IfOk result (λ ids. ids.items ≡ all_ids self.now.spans) }
         ensures memory { IfErr result (λ fault. fault ≡ Fault.Memory) }
     {
         self.slots.ids()
@@ -382,10 +382,23 @@ impl Forest {
         ensures own { IfOk result (λ seen. layer < 64 → IsTrue (has_bit seen.same.0 layer)) }
         ensures refused { IfErr result (λ fault. WhyNotFound self.now.spans id fault) }
     {
-        if !is_open(&self.slots, id) {
+        let Some(span) = self.find(id) else {
             return Err(Fault::Unknown);
-        }
-        Ok(path_text_of(&self.slots, self.alloc, layer, id)?)
+        };
+        self.path_text_from(layer, id, span)
+    }
+
+    /// Does what `path_text` does, for a caller that found the span: the walk begins at it, and only the spans above it
+    /// are looked up. The only error is `Memory`.
+    pub fn path_text_from(&self, layer: u32, id: Id, span: &Span) -> Result<PathText, Fault>
+        requires { find self.now.spans id ≡ Some (node_of span.now) }
+        ensures text { IfOk result (λ seen. string_bytes seen.text ≡ path_text (path layer self.now.spans id)) }
+        ensures same { IfOk result (λ seen. (other : ℕ) → IsTrue (has_bit seen.same.0 other) →
+            path other self.now.spans id ≡ path layer self.now.spans id) }
+        ensures own { IfOk result (λ seen. layer < 64 → IsTrue (has_bit seen.same.0 layer)) }
+        ensures memory { IfErr result (λ fault. fault ≡ Fault.Memory) }
+    {
+        Ok(path_text_of(&self.slots, self.alloc, layer, id, span)?)
     }
 
     /// The text that `path_text` would give with one more name at the end of the path, as that of a new child.
@@ -400,9 +413,9 @@ impl Forest {
         ensures own { IfOk result (λ seen. layer < 64 → IsTrue (has_bit seen.same.0 layer)) }
         ensures refused { IfErr result (λ fault. WhyNotFound self.now.spans id fault) }
     {
-        if !is_open(&self.slots, id) {
+        let Some(span) = self.find(id) else {
             return Err(Fault::Unknown);
-        }
-        Ok(path_text_below_of(&self.slots, self.alloc, layer, id, name)?)
+        };
+        Ok(path_text_below_of(&self.slots, self.alloc, layer, id, span, name)?)
     }
 }

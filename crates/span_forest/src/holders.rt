@@ -1,5 +1,5 @@
 ghost use Rattle.std.specs.Prelude.{◌≡◌, ℕ, ◌+◌, ◌-◌, ◌<◌, ◌≤◌, ◌↔◌, Some, IsSomeAnd, IsTrue};
-ghost use Rattle.span_slots.specs.Table.{value_at, with_value};
+ghost use Rattle.span_slots.specs.Table.{find, with_value};
 ghost use Rattle.span_forest.specs.declared.span.Span.{Span};
 ghost use Rattle.span_forest.specs.Node.{node_of};
 ghost use Rattle.span_forest.specs.Spans.{nodes_of, IsOpen};
@@ -32,7 +32,7 @@ pub(crate) fn is_held(slots: &Slots<Span>, id: Id, holder: Holder) -> bool
 
 // The count of a span that is open.
 pub(crate) fn count_of(slots: &Slots<Span>, id: Id) -> u32
-    ensures { (span : Span) → value_at slots.now.entries id ≡ Some span → result ≡ span.count }
+    ensures { (span : Span) → find slots.now.entries id ≡ Some span → result ≡ span.count }
 {
     match slots.get(id) {
         None => 0,
@@ -52,9 +52,9 @@ pub(crate) fn handles_in(holder: Holder) -> u64
 
 // Writes one more holder of a span down.
 pub(crate) fn raise_holder(slots: &mut Slots<Span>, id: Id, holder: Holder)
-    requires { IsSomeAnd (value_at slots.old.entries id)
+    requires { IsSomeAnd (find slots.old.entries id)
         (λ span. (held_by holder (node_of span) ≤ span.count) × (span.count < 4294967295)) }
-    ensures { (span : Span) → value_at slots.old.entries id ≡ Some span → slots.new ≡ record slots.old {
+    ensures { (span : Span) → find slots.old.entries id ≡ Some span → slots.new ≡ record slots.old {
       entries = with_value slots.old.entries id (span_more holder span);
     } }
 {
@@ -69,9 +69,9 @@ pub(crate) fn raise_holder(slots: &mut Slots<Span>, id: Id, holder: Holder)
 
 // Takes one holder from a span.
 pub(crate) fn drop_holder(slots: &mut Slots<Span>, id: Id, holder: Holder)
-    requires { IsSomeAnd (value_at slots.old.entries id)
+    requires { IsSomeAnd (find slots.old.entries id)
         (λ span. (0 < held_by holder (node_of span)) × (0 < span.count)) }
-    ensures { (span : Span) → value_at slots.old.entries id ≡ Some span → slots.new ≡ record slots.old {
+    ensures { (span : Span) → find slots.old.entries id ≡ Some span → slots.new ≡ record slots.old {
       entries = with_value slots.old.entries id (span_less holder span);
     } }
 {
@@ -86,8 +86,8 @@ pub(crate) fn drop_holder(slots: &mut Slots<Span>, id: Id, holder: Holder)
 
 // Counts one more child at its parent.
 pub(crate) fn raise(slots: &mut Slots<Span>, id: Id)
-    requires { IsSomeAnd (value_at slots.old.entries id) (λ span. span.count < 4294967295) }
-    ensures { (span : Span) → value_at slots.old.entries id ≡ Some span → slots.new ≡ record slots.old {
+    requires { IsSomeAnd (find slots.old.entries id) (λ span. span.count < 4294967295) }
+    ensures { (span : Span) → find slots.old.entries id ≡ Some span → slots.new ≡ record slots.old {
       entries = with_value slots.old.entries id (counts_more span);
     } }
 {
@@ -98,8 +98,8 @@ pub(crate) fn raise(slots: &mut Slots<Span>, id: Id)
 
 // Counts one child less at its parent.
 pub(crate) fn lower(slots: &mut Slots<Span>, id: Id)
-    requires { IsSomeAnd (value_at slots.old.entries id) (λ span. 0 < span.count) }
-    ensures { (span : Span) → value_at slots.old.entries id ≡ Some span → slots.new ≡ record slots.old {
+    requires { IsSomeAnd (find slots.old.entries id) (λ span. 0 < span.count) }
+    ensures { (span : Span) → find slots.old.entries id ≡ Some span → slots.new ≡ record slots.old {
       entries = with_value slots.old.entries id (record span { count = span.count - 1 });
     } }
 {

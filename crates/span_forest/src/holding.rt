@@ -1,6 +1,7 @@
 ghost use Rattle.std.specs.Prelude.{◌≡◌, ℕ, ◌<◌, ◌++◌, Some, None, IsTrue, length, IfOk, IfErr, OnOk};
 ghost use Rattle.span_id.specs.Id.{slot_of};
-ghost use Rattle.span_forest.specs.Spans.{find, IsOpen, nodes_of};
+ghost use Rattle.span_slots.specs.Table.{find};
+ghost use Rattle.span_forest.specs.Spans.{IsOpen, nodes_of};
 ghost use Rattle.span_forest.specs.Forest.{IsForest};
 ghost use Rattle.span_forest.specs.Holding.{held_spans, what_holds};
 ghost use Rattle.span_forest.specs.inside.Marks.{is_below, known_of, is_known, AreMarks, held_one};

@@ -1,7 +1,8 @@
 ghost use Rattle.std.specs.Prelude.{◌≡◌, ◌++◌, ◌∷◌, [], ◌<◌, ◌↔◌, ℕ, Some, IsTrue, IfOk, OnOk, map, flat_map, string_bytes};
 ghost use Rattle.span_id.specs.Bits.{has_bit};
 ghost use Rattle.span_forest.specs.Node.{node_of};
-ghost use Rattle.span_forest.specs.Spans.{nodes_of, IsOpen};
+ghost use Rattle.span_slots.specs.Table.{find};
+ghost use Rattle.span_forest.specs.Spans.{nodes_of};
 ghost use Rattle.span_forest.specs.Walk.{walk};
 ghost use Rattle.span_forest.specs.Path.{name_for, names_for, path, path_text};
 ghost use Rattle.span_forest.specs.Forest.{IsForest};
@@ -28,22 +29,23 @@ struct Seen<'a> {
     same: Bits,
 }
 
-// The text of the layer's path at a span, in a buffer with no room for more.
-pub(crate) fn path_text_of(
-    slots: &Slots<Span>,
+// The text of the layer's path at a span that was found, in a buffer with no room for more.
+pub(crate) fn path_text_of<'a>(
+    slots: &'a Slots<Span>,
     alloc: Global,
     layer: u32,
     id: Id,
+    span: &'a Span,
 ) -> Result<PathText, AllocError>
     requires forest { IsForest (nodes_of slots.now.entries) }
-    requires open { IsOpen (nodes_of slots.now.entries) id }
+    requires found { find (nodes_of slots.now.entries) id ≡ Some (node_of span.now) }
     ensures text { IfOk result (λ seen. string_bytes seen.text
         ≡ path_text (path layer (nodes_of slots.now.entries) id)) }
     ensures same { IfOk result (λ seen. (other : ℕ) → IsTrue (has_bit seen.same.0 other) →
         path other (nodes_of slots.now.entries) id ≡ path layer (nodes_of slots.now.entries) id) }
     ensures own { IfOk result (λ seen. layer < 64 → IsTrue (has_bit seen.same.0 layer)) }
 {
-    let seen = path_seen(slots, alloc, layer, id)?;
+    let seen = path_seen(slots, alloc, layer, id, span)?;
     seen.told(alloc)
 }
 
@@ -53,50 +55,54 @@ pub(crate) fn path_text_below_of<'a>(
     alloc: Global,
     layer: u32,
     id: Id,
+    span: &'a Span,
     name: &'a str,
 ) -> Result<PathText, AllocError>
     requires forest { IsForest (nodes_of slots.now.entries) }
-    requires open { IsOpen (nodes_of slots.now.entries) id }
+    requires found { find (nodes_of slots.now.entries) id ≡ Some (node_of span.now) }
     ensures text { IfOk result (λ seen. string_bytes seen.text
         ≡ path_text (path layer (nodes_of slots.now.entries) id ++ name.now ∷ [])) }
     ensures same { IfOk result (λ seen. (other : ℕ) → IsTrue (has_bit seen.same.0 other) →
         path other (nodes_of slots.now.entries) id ≡ path layer (nodes_of slots.now.entries) id) }
     ensures own { IfOk result (λ seen. layer < 64 → IsTrue (has_bit seen.same.0 layer)) }
 {
-    let mut seen = path_seen(slots, alloc, layer, id)?;
+    let mut seen = path_seen(slots, alloc, layer, id, span)?;
     seen.names.push(name)?;
     seen.told(alloc)
 }
 
-// The layer's path at a span.
+// The layer's path at a span that was found.
 fn path_seen<'a>(
     slots: &'a Slots<Span>,
     alloc: Global,
     layer: u32,
     id: Id,
+    span: &'a Span,
 ) -> Result<Seen<'a>, AllocError>
     requires forest { IsForest (nodes_of slots.now.entries) }
-    requires open { IsOpen (nodes_of slots.now.entries) id }
+    requires found { find (nodes_of slots.now.entries) id ≡ Some (node_of span.now) }
     ensures names { IfOk result (λ seen. map (λ name. name.now) seen.names.items
         ≡ path layer (nodes_of slots.now.entries) id) }
     ensures same { IfOk result (λ seen. (other : ℕ) → IsTrue (has_bit seen.same.0 other) →
         path other (nodes_of slots.now.entries) id ≡ path layer (nodes_of slots.now.entries) id) }
     ensures own { IfOk result (λ seen. layer < 64 → IsTrue (has_bit seen.same.0 layer)) }
 {
-    let mut seen = seen_on_walk(slots, alloc, layer, id)?;
+    let mut seen = seen_on_walk(slots, alloc, layer, id, span)?;
     seen.names.reverse();
     Ok(seen)
 }
 
-// What the layer sees from a span up to its root, the span's own name first.
+// What the layer sees from a span that was found up to its root, the span's own name first. So that span is looked up no
+// more.
 fn seen_on_walk<'a>(
     slots: &'a Slots<Span>,
     alloc: Global,
     layer: u32,
     id: Id,
+    span: &'a Span,
 ) -> Result<Seen<'a>, AllocError>
     requires forest { IsForest (nodes_of slots.now.entries) }
-    requires open { IsOpen (nodes_of slots.now.entries) id }
+    requires found { find (nodes_of slots.now.entries) id ≡ Some (node_of span.now) }
     ensures names { IfOk result (λ seen. map (λ name. name.now) seen.names.items
         ≡ names_for layer (nodes_of slots.now.entries) (walk (nodes_of slots.now.entries) id)) }
     ensures same { IfOk result (λ seen. (other : ℕ) → IsTrue (has_bit seen.same.0 other) →
@@ -108,7 +114,8 @@ fn seen_on_walk<'a>(
         names: Vec::new(alloc),
         same: Bits::all(),
     };
-    let mut next = Some(id);
+    seen.look(layer, span)?;
+    let mut next = span.parent;
     'up: while let Some(at) = next {
         let Some(span) = slots.get(at) else {
             unreachable!()

@@ -1,5 +1,5 @@
 ghost use Rattle.std.specs.Prelude.{◌≡◌, ◌++◌, Some, IsSome, IfOk, IfErr, OnOk, OnErr, map, string_bytes};
-ghost use Rattle.span_slots.specs.Table.{value_at};
+ghost use Rattle.span_slots.specs.Table.{find};
 ghost use Rattle.span_forest.specs.Node.{node_of, with_fields};
 ghost use Rattle.span_forest.specs.Spans.{nodes_of, with_change, IsOpen, WhyNotFound};
 ghost use Rattle.span_forest.specs.Path.{name_for, path};

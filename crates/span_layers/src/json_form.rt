@@ -10,7 +10,7 @@ ghost use Rattle.span_layers.specs.inside.Tokens.{Appends, start_tokens, end_tok
 mod members;
 mod pairs;
 
-use crate::json_form::members::{write_number, write_text, write_told};
+use crate::json_form::members::{write_event, write_number, write_text};
 use crate::json_form::pairs::write_fields;
 use crate::note::Note;
 use crate::room::json_room;
@@ -54,7 +54,7 @@ fn write_note(out: &mut Writer, note: &Note) -> Result<(), AllocError>
     ensures { Appends result out.old out.new (json_tokens (outline (json_value (plain_note note.now)))) }
 {
     write_start(out, note)?;
-    write_told(out, note)?;
+    write_event(out, note)?;
     write_end(out, note)
 }
 

@@ -15,7 +15,7 @@ const COMPACT_HEAD: usize = 4;
 const COMPACT_PAIR: usize = 2;
 
 // The blanks before the level and the message.
-const COMPACT_TOLD: usize = 2;
+const COMPACT_EVENT: usize = 2;
 
 // Room for what is escaped in bytes that the compact form doesn't look at.
 const COMPACT_SPARE: usize = 15;
@@ -36,9 +36,9 @@ const LONG_SPARE: usize = 48;
 pub(crate) fn compact_room(note: &Note) -> usize {
     let head = head_len(note).saturating_add(COMPACT_HEAD + COMPACT_SPARE);
     let mut room = head.saturating_add(note.path.len());
-    if let Some((level, message)) = told(note) {
+    if let Some((level, message)) = event_shown(note) {
         room = room
-            .saturating_add(COMPACT_TOLD)
+            .saturating_add(COMPACT_EVENT)
             .saturating_add(level.name().len())
             .saturating_add(compact_len(message.as_bytes()));
     }
@@ -54,7 +54,7 @@ pub(crate) fn compact_room(note: &Note) -> usize {
 /// The length of a note's JSON text where little is escaped, and some bytes more.
 pub(crate) fn json_room(note: &Note) -> usize {
     let mut room = JSON_FRAME.saturating_add(note.path.len());
-    if let Some((_, message)) = told(note) {
+    if let Some((_, message)) = event_shown(note) {
         room = room.saturating_add(json_len(message));
     }
     for field in note.fields.as_slice() {
@@ -73,8 +73,8 @@ fn head_len(note: &Note) -> usize {
 }
 
 // The level and the message, which are shown of events alone.
-fn told(note: &Note) -> Option<(Level, &str)> {
-    match (note.kind, &note.tail) {
+fn event_shown(note: &Note) -> Option<(Level, &str)> {
+    match (note.kind, &note.event) {
         (Kind::OnEvent, Some((level, message))) => Some((*level, message.as_str())),
         _ => None,
     }

@@ -1,6 +1,6 @@
 -- No line has the place of a note that was missed.
 use Rattle.std.proofs.Common.{◌≡◌, ℕ, ◌+◌, ◌≤◌, Option, Some, None, List, [], ◌∷◌, ◌++◌, map, get_or, refl, sym, ap, subst, ◌∙◌, arith}
-use Rattle.std.specs.Prelude.{All, flat_map, slice_get}
+use Rattle.std.specs.Prelude.{All, slice_get}
 use Rattle.std.specs.List.{enumerate_from}
 use Rattle.std.specs.Option.{option_map}
 use Rattle.std.proofs.lemmas.Option.{none-some, same_Some}
@@ -11,7 +11,7 @@ use Rattle.span_layers.specs.Text.{text_of}
 use Rattle.span_outlet.specs.Batch.{PlainBatch}
 use Rattle.span_outlet.specs.declared.line.Line.{Line}
 use Rattle.span_outlet.specs.Lines.{PlainLine, plain_line, line_of}
-use Rattle.span_outlet.specs.Kept.{NumberedNote, numbered_in, numbered, LacksMemory, WhyMissed, AreTold, HasNoLine}
+use Rattle.span_outlet.specs.Kept.{NumberedNote, numbered_in, numbered_from, numbered, LacksMemory, WhyMissed, AreTold, HasNoLine}
 use Rattle.span_outlet.specs.Kept.WhyMissed.{no_memory}
 use Rattle.span_outlet.specs.Kept.AreTold.{none, told, missed}
 
@@ -87,29 +87,29 @@ apart_in_batch batch place (note ∷ notes) = (
   apart_in_batch batch (place + 1) notes,
 )
 
-from_batch : (least number : ℕ) (history : List PlainBatch) → least ≤ number → All (λ note. least ≤ note.batch) (flat_map numbered_in (enumerate_from number history))
+from_batch : (least number : ℕ) (history : List PlainBatch) → least ≤ number → All (λ note. least ≤ note.batch) (numbered_from number history)
 unfolding numbered_as
 from_batch least number [] above = All-nil (λ note. least ≤ note.batch)
 from_batch least number (batch ∷ history) above =
-    All-append (λ note. least ≤ note.batch) (numbered_in (number, batch)) (flat_map numbered_in (enumerate_from (number + 1) history))
-    (All-weaker (λ note. (note.batch ≡ number) × (0 ≤ note.place)) (λ note. least ≤ note.batch) (λ note at. (let here = at.0 in omega (arith, above, here))) (numbered_in (number, batch)) (from_place number 0 0 batch.notes (omega arith)))
+    All-append (λ note. least ≤ note.batch) (numbered_in number batch) (numbered_from (number + 1) history)
+    (All-weaker (λ note. (note.batch ≡ number) × (0 ≤ note.place)) (λ note. least ≤ note.batch) (λ note at. (let here = at.0 in omega (arith, above, here))) (numbered_in number batch) (from_place number 0 0 batch.notes (omega arith)))
     (from_batch least (number + 1) history (omega (arith, above)))
 
-apart_from : (number : ℕ) (history : List PlainBatch) → AreApart (flat_map numbered_in (enumerate_from number history))
+apart_from : (number : ℕ) (history : List PlainBatch) → AreApart (numbered_from number history)
 unfolding numbered_as
 apart_from number [] = tt
 apart_from number (batch ∷ history) =
-    apart_append (numbered_in (number, batch)) (flat_map numbered_in (enumerate_from (number + 1) history)) (apart_in_batch number 0 batch.notes) (apart_from (number + 1) history)
-    (All-weaker (λ x. (x.batch ≡ number) × (0 ≤ x.place)) (λ x. All (λ y. IsOther x y.batch y.place) (flat_map numbered_in (enumerate_from (number + 1) history)))
+    apart_append (numbered_in number batch) (numbered_from (number + 1) history) (apart_in_batch number 0 batch.notes) (apart_from (number + 1) history)
+    (All-weaker (λ x. (x.batch ≡ number) × (0 ≤ x.place)) (λ x. All (λ y. IsOther x y.batch y.place) (numbered_from (number + 1) history))
     (λ x at k d below same. (let later = from_batch (number + 1) (number + 1) history (omega arith) k d below in let here = at.0 in let equal = same.0 in omega (arith, later, here, equal)))
-    (numbered_in (number, batch)) (from_place number 0 0 batch.notes (omega arith)))
+    (numbered_in number batch) (from_place number 0 0 batch.notes (omega arith)))
 
 pub elsewhere : (forms : List Form) (history : List PlainBatch) (lines : List PlainLine) (xs : List NumberedNote) → AreTold forms (numbered history) lines xs → All (HasNoLine lines) xs
 elsewhere forms history lines xs each = no_line forms each (apart_from 0 history)
 
 -- the lines of a batch have its number
-pub of_one_batch : (forms : List Form) (number : ℕ) (batch : PlainBatch) {lines : List PlainLine} {xs : List NumberedNote} → AreTold forms (numbered_in (number, batch)) lines xs → All (λ line. line.batch ≡ number) lines
+pub of_one_batch : (forms : List Form) (number : ℕ) (batch : PlainBatch) {lines : List PlainLine} {xs : List NumberedNote} → AreTold forms (numbered_in number batch) lines xs → All (λ line. line.batch ≡ number) lines
 unfolding numbered_as
 of_one_batch forms number batch each =
     (at_each forms (λ b p. b ≡ number) each
-    (All-weaker (λ note. (note.batch ≡ number) × (0 ≤ note.place)) (λ note. note.batch ≡ number) (λ note at. at.0) (numbered_in (number, batch)) (from_place number 0 0 batch.notes (omega arith)))).0
+    (All-weaker (λ note. (note.batch ≡ number) × (0 ≤ note.place)) (λ note. note.batch ≡ number) (λ note at. at.0) (numbered_in number batch) (from_place number 0 0 batch.notes (omega arith)))).0

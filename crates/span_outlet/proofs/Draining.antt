@@ -16,7 +16,7 @@ use Rattle.span_outlet.specs.Kept.{NumberedNote, numbered_in, AreTold, GainsLine
 use Rattle.span_outlet.specs.Kept.AreTold.{none, told, missed}
 use Rattle.span_outlet.specs.Drain.{TakesBatch}
 use Rattle.span_outlet.specs.Posted.{plain_posted}
-use Rattle.span_outlet.specs.inside.Telling.{numbered_notes}
+use Rattle.span_outlet.specs.inside.Taking.{numbered_notes}
 
 -- ---- each note is told or missed
 
@@ -31,10 +31,10 @@ as_many number notes =
     ∙ length-enumerate_from 0 (map plain_note notes) ∙ length-map notes plain_note
 
 -- a batch brings no more lines than it has notes
-pub most_gained : (forms : List Form) (number : ℕ) (notes : List Note) (lines after : List Line) (refused more : ℕ)
-    → GainsLines forms (numbered_notes number (map plain_note notes)) (map plain_line lines) refused (map plain_line after) more
+pub most_gained : (forms : List Form) (number : ℕ) (notes : List Note) (lines after : List Line) (misses more : ℕ)
+    → GainsLines forms (numbered_notes number (map plain_note notes)) (map plain_line lines) misses (map plain_line after) more
     → length after ≤ length lines + length notes
-most_gained forms number notes lines after refused more gains =
+most_gained forms number notes lines after misses more gains =
     let all = each_once forms gains.each ∙ as_many number notes in
     let now = sym (length-map after plain_line) ∙ ap length gains.lines_are ∙ length-append (map plain_line lines) gains.added in
     let before = length-map lines plain_line in
@@ -45,24 +45,24 @@ most_gained forms number notes lines after refused more gains =
 pub one_more_taken : (old new : List Posted) (batch : Posted) (number : ℕ) → new ≡ old ++ batch ∷ [] → number ≡ length old → number + 1 ≡ length new
 one_more_taken old new batch number is number_is = let len = ap length is ∙ length-append old (batch ∷ []) in omega (arith, len, number_is)
 
-pub batch_taken : (name same : RingName) (forms kept : List Form) (old new : List Posted) (batch : Posted) (number : ℕ) (lines after : List Line) (refused more notes fresh : ℕ)
+pub batch_taken : (name same : RingName) (forms kept : List Form) (old new : List Posted) (batch : Posted) (number : ℕ) (lines after : List Line) (misses more notes fresh : ℕ)
     → same ≡ name → kept ≡ forms → number ≡ length old → new ≡ old ++ batch ∷ []
-    → GainsLines forms (numbered_in (number, plain_posted batch)) (map plain_line lines) refused (map plain_line after) more
+    → GainsLines forms (numbered_in number (plain_posted batch)) (map plain_line lines) misses (map plain_line after) more
     → notes ≡ length batch.notes.items → length lines + fresh ≡ length after
-    → TakesBatch (record { name = name; forms = forms; taken = map plain_posted old; lines = map plain_line lines; refused = refused })
-    (record { name = same; forms = kept; taken = map plain_posted new; lines = map plain_line after; refused = more })
-    (record { told = fresh; refused = notes - fresh })
-batch_taken name same forms kept old new batch number lines after refused more notes fresh name_is forms_are number_is is gains notes_are counted =
+    → TakesBatch (record { name = name; forms = forms; taken = map plain_posted old; lines = map plain_line lines; missed = misses })
+    (record { name = same; forms = kept; taken = map plain_posted new; lines = map plain_line after; missed = more })
+    (record { told = fresh; missed = notes - fresh })
+batch_taken name same forms kept old new batch number lines after misses more notes fresh name_is forms_are number_is is gains notes_are counted =
     let before = length-map lines plain_line in
     let now = length-map after plain_line in
-    let most = most_gained forms number batch.notes.items lines after refused more gains in
+    let most = most_gained forms number batch.notes.items lines after misses more gains in
     let plain = length-map batch.notes.items plain_note in
     record {
       batch = plain_posted batch;
       taken = ap (map plain_posted) is ∙ map-append plain_posted old (batch ∷ []);
-      gains = subst (λ n. GainsLines forms (numbered_in (n, plain_posted batch)) (map plain_line lines) refused (map plain_line after) more) (number_is ∙ sym (length-map old plain_posted)) gains;
+      gains = subst (λ n. GainsLines forms (numbered_in n (plain_posted batch)) (map plain_line lines) misses (map plain_line after) more) (number_is ∙ sym (length-map old plain_posted)) gains;
       told = omega (arith, before, now, counted);
-      refused = omega (arith, counted, most, notes_are, plain);
+      missed = omega (arith, counted, most, notes_are, plain);
     }
 
 -- ---- the rest of a ring

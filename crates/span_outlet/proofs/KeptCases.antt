@@ -18,7 +18,7 @@ use Rattle.span_outlet.specs.Drain.{DrainView, TakesBatch}
 
 -- worker 0 entered span 1, whose name is `a`
 abbrev note : ℕ → PlainNote
-note layer = record { layer = layer; kind = OnEnter; worker = 0; id = 1; path = codes "a"; fields = []; tail = None }
+note layer = record { layer = layer; kind = OnEnter; worker = 0; id = 1; path = codes "a"; fields = []; event = None }
 
 abbrev at : ℕ → ℕ → ℕ → NumberedNote
 at batch place layer = record { batch = batch; place = place; note = note layer }
@@ -45,7 +45,7 @@ forms = Compact ∷ Compact ∷ Compact ∷ []
 none_missed : AreKept forms (numbered history) (line 1 0 0 ∷ line 1 1 1 ∷ line 1 2 2 ∷ []) 0
 unfolding text_of digits
 none_missed = record {
-  missed = [];
+  missed_notes = [];
   each = told (at 1 0 0) (line 1 0 0) refl (told (at 1 1 1) (line 1 1 1) refl (told (at 1 2 2) (line 1 2 2) refl none));
   counted = refl;
 }
@@ -54,7 +54,7 @@ none_missed = record {
 second_missed : LacksMemory 1 1 → AreKept forms (numbered history) (line 1 0 0 ∷ line 1 2 2 ∷ []) 1
 unfolding text_of digits
 second_missed refused = record {
-  missed = at 1 1 1 ∷ [];
+  missed_notes = at 1 1 1 ∷ [];
   each = told (at 1 0 0) (line 1 0 0) refl (missed (at 1 1 1) (no_memory refused) (told (at 1 2 2) (line 1 2 2) refl none));
   counted = refl;
 }
@@ -63,17 +63,17 @@ second_missed refused = record {
 formless : AreKept (Compact ∷ []) (numbered history) (line 1 0 0 ∷ []) 2
 unfolding text_of digits
 formless = record {
-  missed = at 1 1 1 ∷ at 1 2 2 ∷ [];
+  missed_notes = at 1 1 1 ∷ at 1 2 2 ∷ [];
   each = told (at 1 0 0) (line 1 0 0) refl (missed (at 1 1 1) (no_form refl) (missed (at 1 2 2) (no_form refl) none));
   counted = refl;
 }
 
 -- a batch with the number 2: its second note is missed and counted, and its lines come after the line so far
-gained : LacksMemory 2 1 → GainsLines forms (numbered_in (2, record { request = enter 0 1; answer = entered true; notes = note 0 ∷ note 1 ∷ note 2 ∷ [] })) (line 1 0 0 ∷ []) 5 (line 1 0 0 ∷ line 2 0 0 ∷ line 2 2 2 ∷ []) 6
+gained : LacksMemory 2 1 → GainsLines forms (numbered_in 2 (record { request = enter 0 1; answer = entered true; notes = note 0 ∷ note 1 ∷ note 2 ∷ [] })) (line 1 0 0 ∷ []) 5 (line 1 0 0 ∷ line 2 0 0 ∷ line 2 2 2 ∷ []) 6
 unfolding text_of digits
 gained refused = record {
   added = line 2 0 0 ∷ line 2 2 2 ∷ [];
-  missed = at 2 1 1 ∷ [];
+  missed_notes = at 2 1 1 ∷ [];
   each = told (at 2 0 0) (line 2 0 0) refl (missed (at 2 1 1) (no_memory refused) (told (at 2 2 2) (line 2 2 2) refl none));
   lines_are = refl;
   counted = refl;
@@ -82,23 +82,23 @@ gained refused = record {
 -- a drain that took the clone, and has missed 5 notes of which nothing else is said here
 abbrev clone_taken : RingName → DrainView
 clone_taken name =
-    record { name = name; forms = forms; taken = record { request = clone_span 0 1; answer = cloned; notes = [] } ∷ []; lines = []; refused = 5 }
+    record { name = name; forms = forms; taken = record { request = clone_span 0 1; answer = cloned; notes = [] } ∷ []; lines = []; missed = 5 }
 
 -- it takes the entry, whose second note is missed: two were told, and one was missed
-entry_taken : LacksMemory 1 1 → (name : RingName) → TakesBatch (clone_taken name) (record { name = name; forms = forms; taken = history; lines = line 1 0 0 ∷ line 1 2 2 ∷ []; refused = 6 }) (record { told = 2; refused = 1 })
+entry_taken : LacksMemory 1 1 → (name : RingName) → TakesBatch (clone_taken name) (record { name = name; forms = forms; taken = history; lines = line 1 0 0 ∷ line 1 2 2 ∷ []; missed = 6 }) (record { told = 2; missed = 1 })
 unfolding text_of digits
 entry_taken refused name = record {
   batch = record { request = enter 0 1; answer = entered true; notes = note 0 ∷ note 1 ∷ note 2 ∷ [] };
   taken = refl;
   gains = record {
     added = line 1 0 0 ∷ line 1 2 2 ∷ [];
-    missed = at 1 1 1 ∷ [];
+    missed_notes = at 1 1 1 ∷ [];
     each = told (at 1 0 0) (line 1 0 0) refl (missed (at 1 1 1) (no_memory refused) (told (at 1 2 2) (line 1 2 2) refl none));
     lines_are = refl;
     counted = refl;
   };
   told = refl;
-  refused = refl;
+  missed = refl;
 }
 
 -- the lines of a layer keep their order, and a layer that wrote nothing has none

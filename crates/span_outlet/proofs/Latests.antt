@@ -22,15 +22,15 @@ last_more forms sent batch =
     ∙ append-nil (lines_of_batch forms (length sent, batch))
 
 -- what is known once the lines of a batch are there
-pub latest : (forms same : List Form) (sent new : List PlainBatch) (batch : PlainBatch) (count : ℕ) (lines after : List PlainLine) (refused more : ℕ)
+pub latest : (forms same : List Form) (sent new : List PlainBatch) (batch : PlainBatch) (count : ℕ) (lines after : List PlainLine) (misses more : ℕ)
     → same ≡ forms → count ≡ length sent → new ≡ sent ++ batch ∷ [] → lines ≡ []
-    → GainsLines forms (numbered_in (count, batch)) lines refused after more
+    → GainsLines forms (numbered_in count batch) lines misses after more
     → (count + 1 ≡ length new) × (more ≡ 0 → after ≡ last_lines same new)
-latest forms same sent new batch count lines after refused more is number more_sent no_lines gains =
+latest forms same sent new batch count lines after misses more is number more_sent no_lines gains =
     let longer : length new ≡ length sent + 1 = ap length more_sent ∙ length-append sent (batch ∷ []) in
-    let from_none : GainsLines forms (numbered_in (count, batch)) [] refused after more = subst (λ ls. GainsLines forms (numbered_in (count, batch)) ls refused after more) no_lines gains in (
+    let from_none : GainsLines forms (numbered_in count batch) [] misses after more = subst (λ ls. GainsLines forms (numbered_in count batch) ls misses after more) no_lines gains in (
       omega (arith, number, longer),
-      λ none_missed. batch_whole forms (count, batch) after refused more from_none none_missed
+      λ none_missed. batch_whole forms count batch after misses more from_none none_missed
           ∙ ap {B = List PlainLine} (λ n. lines_of_batch forms (n, batch)) number
           ∙ sym (last_more forms sent batch)
           ∙ (λ i. last_lines (sym is i) (sym more_sent i)),

@@ -77,7 +77,7 @@ of_its_batch forms taken notes number batch line got brought has =
 -- the notes of the batch that was taken last, where no line waited
 pub of_last_batch : (forms same : List Form) (old new : List Posted) (batch : Posted) (number : ℕ) (lines after : List Line) (some more : ℕ) (notes : List Note)
     → same ≡ forms → lines ≡ [] → number ≡ length old → new ≡ old ++ batch ∷ [] → batch.notes.items ≡ notes
-    → GainsLines forms (numbered_in (number, plain_posted batch)) (map plain_line lines) some (map plain_line after) more
+    → GainsLines forms (numbered_in number (plain_posted batch)) (map plain_line lines) some (map plain_line after) more
     → HaveNotes same new notes after
 of_last_batch forms same old new batch number lines after some more notes same_is nothing number_is is brought gains =
     let taken : map plain_posted new ≡ map plain_posted old ++ plain_posted batch ∷ [] = ap (map plain_posted) is ∙ map-append plain_posted old (batch ∷ []) in
@@ -86,8 +86,8 @@ of_last_batch forms same old new batch number lines after some more notes same_i
     ap (λ bs. slice_get bs number) taken ∙ ap (slice_get (map plain_posted old ++ plain_posted batch ∷ [])) number_there ∙ seam (map plain_posted old) (plain_posted batch) [] in
     let all : map plain_line after ≡ gains.added = gains.lines_are ∙ ap (λ ls. map plain_line ls ++ gains.added) nothing in
     let kept : (plain_posted batch).notes ≡ map plain_note notes = ap (map plain_note) brought in
-    let stand : All (StandsIn number (map plain_note notes)) (numbered_in (number, plain_posted batch)) =
-    subst (λ ns. All (StandsIn number ns) (numbered_in (number, plain_posted batch))) kept (stand_behind number [] (plain_posted batch).notes) in
+    let stand : All (StandsIn number (map plain_note notes)) (numbered_in number (plain_posted batch)) =
+    subst (λ ns. All (StandsIn number ns) (numbered_in number (plain_posted batch))) kept (stand_behind number [] (plain_posted batch).notes) in
     subst (λ fs. HaveNotes fs new notes after) (sym same_is)
     (subst (All (HasItsNote forms (map plain_posted new) (map plain_note notes))) (sym all)
     (All-weaker (HasOne forms (StandsIn number (map plain_note notes))) (HasItsNote forms (map plain_posted new) (map plain_note notes))

@@ -12,12 +12,12 @@ use Rattle.span_outlet.specs.declared.line.Line.{Line}
 use Rattle.span_outlet.specs.Batch.{PlainBatch}
 use Rattle.span_outlet.specs.Outlet.{RingName}
 use Rattle.span_outlet.specs.Lines.{PlainLine, plain_line, lines_of}
-use Rattle.span_outlet.specs.Kept.{numbered_in, numbered, AreKept, GainsLines}
+use Rattle.span_outlet.specs.Kept.{numbered_in, numbered_from, numbered, AreKept, GainsLines}
 use Rattle.span_outlet.specs.Kept.AreTold.{none}
-use Rattle.span_outlet.specs.LineReader.{LineReaderView, numbered_from, TakesBatches, AreLeft, HasGiven}
+use Rattle.span_outlet.specs.LineReader.{LineReaderView, TakesBatches, AreLeft, HasGiven}
 use Rattle.span_outlet.specs.Posted.{plain_posted}
 use Rattle.span_outlet.specs.inside.Reading.{reader_view}
-use Rattle.span_outlet.proofs.Keeping.{gains_none, gains_more, kept_more, whole}
+use Rattle.span_outlet.proofs.Keeping.{numbered_pair, gains_none, gains_more, kept_more, whole}
 use Rattle.span_outlet.proofs.Apart.{of_one_batch}
 
 -- ---- the notes of batches
@@ -29,45 +29,45 @@ enumerated_append {X} n (x ∷ xs) ys =
 
 numbered_append : (first : ℕ) (xs ys : List PlainBatch) → numbered_from first (xs ++ ys) ≡ numbered_from first xs ++ numbered_from (first + length xs) ys
 numbered_append first xs ys =
-    ap (flat_map numbered_in) (enumerated_append first xs ys) ∙ flat_map-append numbered_in (enumerate_from first xs) (enumerate_from (first + length xs) ys)
+    ap (flat_map numbered_pair) (enumerated_append first xs ys) ∙ flat_map-append numbered_pair (enumerate_from first xs) (enumerate_from (first + length xs) ys)
 
 -- ---- batches more
 
 -- no batch was taken
-pub takes_none : (view : LineReaderView) → view.refused ≤ 2 ^ 64 - 1 → TakesBatches view view
-takes_none view low = record { batches = []; taken = sym (append-nil view.taken); gains = gains_none view.forms view.waiting view.refused low }
+pub takes_none : (view : LineReaderView) → view.missed ≤ 2 ^ 64 - 1 → TakesBatches view view
+takes_none view low = record { batches = []; taken = sym (append-nil view.taken); gains = gains_none view.forms view.waiting view.missed low }
 
 -- the ring was looked at, and no batch was taken
-pub takes_nothing : (name same : RingName) (forms : List Form) (old new : List Posted) (lines : List Line) (refused : ℕ) → new ≡ old → lines ≡ [] → refused ≤ 2 ^ 64 - 1
-    → TakesBatches (reader_view name 0 forms old [] [] refused) (reader_view same 0 forms new [] lines refused)
-takes_nothing name same forms old new lines refused is nothing low = record {
+pub takes_nothing : (name same : RingName) (forms : List Form) (old new : List Posted) (lines : List Line) (misses : ℕ) → new ≡ old → lines ≡ [] → misses ≤ 2 ^ 64 - 1
+    → TakesBatches (reader_view name 0 forms old [] [] misses) (reader_view same 0 forms new [] lines misses)
+takes_nothing name same forms old new lines misses is nothing low = record {
   batches = [];
   taken = ap (map plain_posted) is ∙ sym (append-nil (map plain_posted old));
-  gains = subst (λ ls. GainsLines forms [] [] refused (map plain_line ls) refused) (sym nothing) (gains_none forms [] refused low);
+  gains = subst (λ ls. GainsLines forms [] [] misses (map plain_line ls) misses) (sym nothing) (gains_none forms [] misses low);
 }
 
 -- some batches were taken, and then one more
 pub takes_more : (name same other : RingName) (forms kept still : List Form) (old mid new : List Posted) (batch : Posted) (number : ℕ)
-    (lines after : List Line) (refused some more : ℕ)
+    (lines after : List Line) (misses some more : ℕ)
     → kept ≡ forms → number ≡ length mid → new ≡ mid ++ batch ∷ []
-    → TakesBatches (reader_view name 0 forms old [] [] refused) (reader_view same 0 kept mid [] lines some)
-    → GainsLines kept (numbered_in (number, plain_posted batch)) (map plain_line lines) some (map plain_line after) more
-    → TakesBatches (reader_view name 0 forms old [] [] refused) (reader_view other 0 still new [] after more)
-takes_more name same other forms kept still old mid new batch number lines after refused some more kept_is number_is is takes gains =
+    → TakesBatches (reader_view name 0 forms old [] [] misses) (reader_view same 0 kept mid [] lines some)
+    → GainsLines kept (numbered_in number (plain_posted batch)) (map plain_line lines) some (map plain_line after) more
+    → TakesBatches (reader_view name 0 forms old [] [] misses) (reader_view other 0 still new [] after more)
+takes_more name same other forms kept still old mid new batch number lines after misses some more kept_is number_is is takes gains =
     let first = length (map plain_posted old) in
     let count : length mid ≡ first + length takes.batches = sym (length-map mid plain_posted) ∙ ap length takes.taken ∙ length-append (map plain_posted old) takes.batches in
     let here : number ≡ first + length takes.batches = number_is ∙ count in
-    let notes : numbered_from first takes.batches ++ numbered_in (number, plain_posted batch) ≡ numbered_from first (takes.batches ++ plain_posted batch ∷ []) =
-    (ap (λ n. numbered_from first takes.batches ++ numbered_in (n, plain_posted batch)) here
-    ∙ ap (λ ns. numbered_from first takes.batches ++ ns) (sym (append-nil (numbered_in (first + length takes.batches, plain_posted batch))))
+    let notes : numbered_from first takes.batches ++ numbered_in number (plain_posted batch) ≡ numbered_from first (takes.batches ++ plain_posted batch ∷ []) =
+    (ap (λ n. numbered_from first takes.batches ++ numbered_in n (plain_posted batch)) here
+    ∙ ap (λ ns. numbered_from first takes.batches ++ ns) (sym (append-nil (numbered_in (first + length takes.batches) (plain_posted batch))))
     ∙ sym (numbered_append first takes.batches (plain_posted batch ∷ []))) in
-    let gained : GainsLines forms (numbered_in (number, plain_posted batch)) (map plain_line lines) some (map plain_line after) more =
-    subst (λ fs. GainsLines fs (numbered_in (number, plain_posted batch)) (map plain_line lines) some (map plain_line after) more) kept_is gains in
+    let gained : GainsLines forms (numbered_in number (plain_posted batch)) (map plain_line lines) some (map plain_line after) more =
+    subst (λ fs. GainsLines fs (numbered_in number (plain_posted batch)) (map plain_line lines) some (map plain_line after) more) kept_is gains in
     record {
       batches = takes.batches ++ plain_posted batch ∷ [];
       taken = ap (map plain_posted) is ∙ map-append plain_posted mid (batch ∷ []) ∙ ap (λ bs. bs ++ plain_posted batch ∷ []) takes.taken ∙ append_assoc (map plain_posted old) takes.batches (plain_posted batch ∷ []);
-      gains = subst (λ ns. GainsLines forms ns [] refused (map plain_line after) more) notes
-          (gains_more forms _ _ [] (map plain_line lines) (map plain_line after) refused some more takes.gains gained);
+      gains = subst (λ ns. GainsLines forms ns [] misses (map plain_line after) more) notes
+          (gains_more forms _ _ [] (map plain_line lines) (map plain_line after) misses some more takes.gains gained);
     }
 
 -- ---- the lines are of the last batch
@@ -78,7 +78,7 @@ OfLast taken lines = All (λ line. line.batch + 1 ≡ length (map plain_posted t
 -- where no line waited
 pub of_batch : (forms : List Form) (old new : List Posted) (batch : Posted) (number : ℕ) (lines after : List Line) (some more : ℕ)
     → lines ≡ [] → number ≡ length old → new ≡ old ++ batch ∷ []
-    → GainsLines forms (numbered_in (number, plain_posted batch)) (map plain_line lines) some (map plain_line after) more
+    → GainsLines forms (numbered_in number (plain_posted batch)) (map plain_line lines) some (map plain_line after) more
     → OfLast new after
 of_batch forms old new batch number lines after some more nothing number_is is gains =
     let count : number + 1 ≡ length (map plain_posted new) =
@@ -96,19 +96,19 @@ none_of_last taken lines nothing = subst (OfLast taken) (sym nothing) (All-nil (
 pub nothing_left : (name : RingName) (looks : ℕ) (forms : List Form) (taken : List Posted) (given : List PlainLine) (lines : List Line) → taken ≡ [] → given ≡ [] → lines ≡ []
     → AreLeft (reader_view name looks forms taken given lines 0)
 nothing_left name looks forms taken given lines none_taken none_given no_lines =
-    rw (none_taken, none_given, no_lines) (record { kept = record { missed = []; each = none; counted = refl } })
+    rw (none_taken, none_given, no_lines) (record { kept = record { missed_notes = []; each = none; counted = refl } })
 
 -- batches more were taken where no line waited
 pub more_left : (old new : LineReaderView) → old.waiting ≡ [] → new.forms ≡ old.forms → new.given ≡ old.given → AreLeft old → TakesBatches old new → AreLeft new
 more_left old new nothing same none_given left takes =
     let gains = takes.gains in
-    let before : AreKept old.forms (numbered old.taken) old.given old.refused =
-    subst (λ ls. AreKept old.forms (numbered old.taken) ls old.refused) (ap (λ ls. old.given ++ ls) nothing ∙ append-nil old.given) left.kept in
+    let before : AreKept old.forms (numbered old.taken) old.given old.missed =
+    subst (λ ls. AreKept old.forms (numbered old.taken) ls old.missed) (ap (λ ls. old.given ++ ls) nothing ∙ append-nil old.given) left.kept in
     let waits : new.waiting ≡ gains.added = gains.lines_are ∙ ap (λ ls. ls ++ gains.added) nothing in
-    let further : GainsLines old.forms (numbered_from (length old.taken) takes.batches) old.given old.refused (new.given ++ new.waiting) new.refused =
+    let further : GainsLines old.forms (numbered_from (length old.taken) takes.batches) old.given old.missed (new.given ++ new.waiting) new.missed =
     record {
       added = gains.added;
-      missed = gains.missed;
+      missed_notes = gains.missed_notes;
       each = gains.each;
       lines_are = ap (λ ls. ls ++ new.waiting) none_given ∙ ap (λ ls. old.given ++ ls) waits;
       counted = gains.counted;
@@ -116,33 +116,33 @@ more_left old new nothing same none_given left takes =
     let notes : numbered old.taken ++ numbered_from (length old.taken) takes.batches ≡ numbered new.taken =
     sym (ap numbered takes.taken ∙ numbered_append 0 old.taken takes.batches ∙ ap (λ n. numbered old.taken ++ numbered_from n takes.batches) (omega arith)) in
     record {
-      kept = subst (λ fs. AreKept fs (numbered new.taken) (new.given ++ new.waiting) new.refused) (sym same)
-          (subst (λ ns. AreKept old.forms ns (new.given ++ new.waiting) new.refused) notes
-          (kept_more old.forms _ _ old.given (new.given ++ new.waiting) old.refused new.refused before further));
+      kept = subst (λ fs. AreKept fs (numbered new.taken) (new.given ++ new.waiting) new.missed) (sym same)
+          (subst (λ ns. AreKept old.forms ns (new.given ++ new.waiting) new.missed) notes
+          (kept_more old.forms _ _ old.given (new.given ++ new.waiting) old.missed new.missed before further));
     }
 
 -- The lines as they are kept, the last one first, are those that were told. Before, there were none.
 pub as_told : (lines kept : List Line) → kept ≡ reverse lines → reverse kept ≡ lines
 as_told lines kept is = ap reverse is ∙ reverse-reverse lines
 
-pub filled_takes : (name seen same : RingName) (times counted : ℕ) (forms kept : List Form) (old looked new : List Posted) (given : List PlainLine) (before lines waiting : List Line) (refused more : ℕ)
-    → before ≡ [] → looked ≡ old → waiting ≡ lines → TakesBatches (reader_view seen 0 forms looked [] [] refused) (reader_view same 0 kept new [] lines more)
-    → TakesBatches (reader_view name times forms old given before refused) (reader_view same counted kept new given waiting more)
-filled_takes name seen same times counted forms kept old looked new given before lines waiting refused more nothing looks is takes =
-    let from_old : TakesBatches (reader_view seen 0 forms old [] before refused) (reader_view same 0 kept new [] lines more) =
-    subst (λ bs. TakesBatches (reader_view seen 0 forms bs [] before refused) (reader_view same 0 kept new [] lines more)) looks
-    (subst (λ ls. TakesBatches (reader_view seen 0 forms looked [] ls refused) (reader_view same 0 kept new [] lines more)) (sym nothing) takes) in
-    let to_new : TakesBatches (reader_view seen 0 forms old [] before refused) (reader_view same 0 kept new [] waiting more) =
-    subst (λ ls. TakesBatches (reader_view seen 0 forms old [] before refused) (reader_view same 0 kept new [] ls more)) (sym is) from_old in
+pub filled_takes : (name seen same : RingName) (times counted : ℕ) (forms kept : List Form) (old looked new : List Posted) (given : List PlainLine) (before lines waiting : List Line) (misses more : ℕ)
+    → before ≡ [] → looked ≡ old → waiting ≡ lines → TakesBatches (reader_view seen 0 forms looked [] [] misses) (reader_view same 0 kept new [] lines more)
+    → TakesBatches (reader_view name times forms old given before misses) (reader_view same counted kept new given waiting more)
+filled_takes name seen same times counted forms kept old looked new given before lines waiting misses more nothing looks is takes =
+    let from_old : TakesBatches (reader_view seen 0 forms old [] before misses) (reader_view same 0 kept new [] lines more) =
+    subst (λ bs. TakesBatches (reader_view seen 0 forms bs [] before misses) (reader_view same 0 kept new [] lines more)) looks
+    (subst (λ ls. TakesBatches (reader_view seen 0 forms looked [] ls misses) (reader_view same 0 kept new [] lines more)) (sym nothing) takes) in
+    let to_new : TakesBatches (reader_view seen 0 forms old [] before misses) (reader_view same 0 kept new [] waiting more) =
+    subst (λ ls. TakesBatches (reader_view seen 0 forms old [] before misses) (reader_view same 0 kept new [] ls more)) (sym is) from_old in
     record { batches = to_new.batches; taken = to_new.taken; gains = to_new.gains }
 
-pub filled_left : (name seen same : RingName) (times counted : ℕ) (forms kept : List Form) (old looked new : List Posted) (given : List PlainLine) (before lines waiting : List Line) (refused more : ℕ)
+pub filled_left : (name seen same : RingName) (times counted : ℕ) (forms kept : List Form) (old looked new : List Posted) (given : List PlainLine) (before lines waiting : List Line) (misses more : ℕ)
     → before ≡ [] → kept ≡ forms → looked ≡ old → waiting ≡ lines
-    → AreLeft (reader_view name times forms old given before refused) → TakesBatches (reader_view seen 0 forms looked [] [] refused) (reader_view same 0 kept new [] lines more)
+    → AreLeft (reader_view name times forms old given before misses) → TakesBatches (reader_view seen 0 forms looked [] [] misses) (reader_view same 0 kept new [] lines more)
     → AreLeft (reader_view same counted kept new given waiting more)
-filled_left name seen same times counted forms kept old looked new given before lines waiting refused more nothing kept_is looks is left takes =
-    more_left (reader_view name times forms old given before refused) (reader_view same counted kept new given waiting more) (ap (map plain_line) nothing) kept_is refl left
-    (filled_takes name seen same times counted forms kept old looked new given before lines waiting refused more nothing looks is takes)
+filled_left name seen same times counted forms kept old looked new given before lines waiting misses more nothing kept_is looks is left takes =
+    more_left (reader_view name times forms old given before misses) (reader_view same counted kept new given waiting more) (ap (map plain_line) nothing) kept_is refl left
+    (filled_takes name seen same times counted forms kept old looked new given before lines waiting misses more nothing looks is takes)
 
 -- where nothing is left in the ring
 pub all_taken : (taken standing : List Posted) (lines waiting : List Line) (sent : List PlainBatch) → waiting ≡ lines → (lines ≡ [] → standing ≡ []) → map plain_posted (taken ++ standing) ≡ sent
@@ -154,12 +154,12 @@ all_taken taken standing lines waiting sent is rest fifo nothing =
 -- then what was given out is all that there is
 pub all_given : (view : LineReaderView) (sent : List PlainBatch) → AreLeft view → view.taken ≡ sent → view.waiting ≡ [] → HasGiven sent view
 all_given view sent left all nothing =
-    let given : AreKept view.forms (numbered view.taken) view.given view.refused =
-    subst (λ ls. AreKept view.forms (numbered view.taken) ls view.refused) (ap (λ ls. view.given ++ ls) nothing ∙ append-nil view.given) left.kept in
-    record { kept = subst (λ bs. AreKept view.forms (numbered bs) view.given view.refused) all given }
+    let given : AreKept view.forms (numbered view.taken) view.given view.missed =
+    subst (λ ls. AreKept view.forms (numbered view.taken) ls view.missed) (ap (λ ls. view.given ++ ls) nothing ∙ append-nil view.given) left.kept in
+    record { kept = subst (λ bs. AreKept view.forms (numbered bs) view.given view.missed) all given }
 
-pub all_whole : (view : LineReaderView) (sent : List PlainBatch) → HasGiven sent view → view.refused ≡ 0 → view.given ≡ lines_of view.forms sent
-all_whole view sent has none_refused = whole view.forms sent view.given view.refused has.kept none_refused
+pub all_whole : (view : LineReaderView) (sent : List PlainBatch) → HasGiven sent view → view.missed ≡ 0 → view.given ≡ lines_of view.forms sent
+all_whole view sent has none_missed = whole view.forms sent view.given view.missed has.kept none_missed
 
 -- ---- a line is given out
 
@@ -167,13 +167,13 @@ all_whole view sent has none_refused = whole view.forms sent view.given view.ref
 pub first_out : (old new : List Line) (line : Line) → old ≡ new ++ line ∷ [] → reverse old ≡ line ∷ reverse new
 first_out old new line is = ap reverse is ∙ reverse-append new (line ∷ [])
 
-pub rest_left : (name : RingName) (looks : ℕ) (forms : List Form) (taken : List Posted) (given after : List PlainLine) (lines rest : List Line) (line : Line) (refused : ℕ)
+pub rest_left : (name : RingName) (looks : ℕ) (forms : List Form) (taken : List Posted) (given after : List PlainLine) (lines rest : List Line) (line : Line) (misses : ℕ)
     → lines ≡ line ∷ rest → after ≡ given ++ plain_line line ∷ []
-    → AreLeft (reader_view name looks forms taken given lines refused) → AreLeft (reader_view name looks forms taken after rest refused)
-rest_left name looks forms taken given after lines rest line refused is one_more left =
+    → AreLeft (reader_view name looks forms taken given lines misses) → AreLeft (reader_view name looks forms taken after rest misses)
+rest_left name looks forms taken given after lines rest line misses is one_more left =
     let all : given ++ map plain_line lines ≡ after ++ map plain_line rest =
     (ap (λ ls. given ++ map plain_line ls) is ∙ sym (append_assoc given (plain_line line ∷ []) (map plain_line rest)) ∙ ap (λ ls. ls ++ map plain_line rest) (sym one_more)) in
-    record { kept = subst (λ ls. AreKept forms (numbered (map plain_posted taken)) ls refused) all left.kept }
+    record { kept = subst (λ ls. AreKept forms (numbered (map plain_posted taken)) ls misses) all left.kept }
 
 pub rest_of_last : (taken : List Posted) (lines rest : List Line) (line : Line) → lines ≡ line ∷ rest → OfLast taken lines → OfLast taken rest
 rest_of_last taken lines rest line is each =

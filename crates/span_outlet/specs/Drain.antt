@@ -14,13 +14,13 @@ pub record DrainView : Type 0 where
   pub forms : List Form
   pub taken : List PlainBatch
   pub lines : List PlainLine
-  pub refused : ℕ
+  pub missed : ℕ
 
 -- One batch more was taken, and its notes were told or missed: the step has how many were told, each with a line
 -- more, and how many were missed.
 pub record TakesBatch (old new : DrainView) (step : Step) : Type 0 where
   pub batch : PlainBatch
   pub taken : new.taken ≡ old.taken ++ batch ∷ []
-  pub gains : GainsLines old.forms (numbered_in (length old.taken, batch)) old.lines old.refused new.lines new.refused
+  pub gains : GainsLines old.forms (numbered_in (length old.taken) batch) old.lines old.missed new.lines new.missed
   pub told : length old.lines + step.told ≡ length new.lines
-  pub refused : step.told + step.refused ≡ length batch.notes
+  pub missed : step.told + step.missed ≡ length batch.notes

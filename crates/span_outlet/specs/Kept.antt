@@ -1,20 +1,11 @@
 -- What the outlet that keeps lines has of a history.
-use Rattle.std.specs.Prelude.{◌≡◌, ℕ, ◌+◌, ◌-◌, ◌^◌, ◌≤◌, Bool, List, [], ◌∷◌, ◌++◌, map, flat_map, length, min, slice_get, All, Some, None}
+use Rattle.std.specs.Prelude.{◌≡◌, ℕ, ◌+◌, ◌-◌, ◌^◌, ◌≤◌, List, [], ◌∷◌, ◌++◌, map, flat_map, length, min, slice_get, All, Some, None}
 use Rattle.std.specs.List.{enumerate_from}
 use Rattle.std.specs.declared.alloc.AllocError.{AllocError}
 use Rattle.span_layers.specs.declared.form.Form.{Form}
 use Rattle.span_layers.specs.Note.{PlainNote}
 use Rattle.span_outlet.specs.Batch.{PlainBatch}
 use Rattle.span_outlet.specs.Lines.{PlainLine, line_of}
-
--- the forms in which it writes, the batches that were sent to it, the lines that it has of their notes, how
--- many notes were missed, and whether it has a place for one more batch
-pub record KeptView : Type 0 where
-  pub forms : List Form
-  pub sent : List PlainBatch
-  pub lines : List PlainLine
-  pub refused : ℕ
-  pub ready : Bool
 
 -- a note, with the number of its batch and its place in it, both from 0
 pub record NumberedNote : Type 0 where
@@ -23,13 +14,17 @@ pub record NumberedNote : Type 0 where
   pub note : PlainNote
 
 -- the notes of a batch with this number
-abbrev pub numbered_in : ℕ × PlainBatch → List NumberedNote
-numbered_in batch =
-    map (λ note. record { batch = batch.0; place = note.0; note = note.1 }) (enumerate_from 0 batch.1.notes)
+abbrev pub numbered_in : ℕ → PlainBatch → List NumberedNote
+numbered_in number batch =
+    map (λ note. record { batch = number; place = note.0; note = note.1 }) (enumerate_from 0 batch.notes)
+
+-- the notes of batches, the first of which has this number, in order
+abbrev pub numbered_from : ℕ → List PlainBatch → List NumberedNote
+numbered_from first batches = flat_map (λ batch. numbered_in batch.0 batch.1) (enumerate_from first batches)
 
 -- the notes of a history, in order
 abbrev pub numbered : List PlainBatch → List NumberedNote
-numbered history = flat_map numbered_in (enumerate_from 0 history)
+numbered history = numbered_from 0 history
 
 -- Memory was refused for the text or for the line of the note at this place of the batch of this number.
 unfoldable pub LacksMemory : ℕ → ℕ → Type 0
@@ -57,22 +52,22 @@ pub data AreTold (forms : List Form) : List NumberedNote → List PlainLine → 
       → AreTold forms (note ∷ notes) lines (note ∷ missed)
 
 -- the lines of these notes, but for those that were missed, which are counted; the count stays at 2^64 - 1
-pub record AreKept (forms : List Form) (notes : List NumberedNote) (lines : List PlainLine) (refused : ℕ) : Type 0 where
-  pub missed : List NumberedNote
-  pub each : AreTold forms notes lines missed
-  pub counted : refused ≡ min (2 ^ 64 - 1) (length missed)
+pub record AreKept (forms : List Form) (notes : List NumberedNote) (lines : List PlainLine) (missed : ℕ) : Type 0 where
+  pub missed_notes : List NumberedNote
+  pub each : AreTold forms notes lines missed_notes
+  pub counted : missed ≡ min (2 ^ 64 - 1) (length missed_notes)
 
 -- More notes: after the lines so far stand those of these notes, but for the ones that were missed, which are
 -- counted; the count stays at 2^64 - 1.
 pub record GainsLines
     (forms : List Form) (notes : List NumberedNote)
-    (lines : List PlainLine) (refused : ℕ) (new_lines : List PlainLine) (new_refused : ℕ)
+    (lines : List PlainLine) (missed : ℕ) (new_lines : List PlainLine) (new_missed : ℕ)
     : Type 0 where
   pub added : List PlainLine
-  pub missed : List NumberedNote
-  pub each : AreTold forms notes added missed
+  pub missed_notes : List NumberedNote
+  pub each : AreTold forms notes added missed_notes
   pub lines_are : new_lines ≡ lines ++ added
-  pub counted : new_refused ≡ min (2 ^ 64 - 1) (refused + length missed)
+  pub counted : new_missed ≡ min (2 ^ 64 - 1) (missed + length missed_notes)
 
 -- no line has the batch and the place of the note
 abbrev pub HasNoLine : List PlainLine → NumberedNote → Type 0

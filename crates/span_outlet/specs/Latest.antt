@@ -1,18 +1,9 @@
 -- What the outlet that keeps the lines of the last batch alone has of a history.
-use Rattle.std.specs.Prelude.{ℕ, ◌-◌, Bool, List, flat_map, drop, length}
+use Rattle.std.specs.Prelude.{ℕ, ◌-◌, List, flat_map, drop, length}
 use Rattle.std.specs.List.{enumerate_from}
 use Rattle.span_layers.specs.declared.form.Form.{Form}
 use Rattle.span_outlet.specs.Batch.{PlainBatch}
 use Rattle.span_outlet.specs.Lines.{PlainLine, lines_of_batch}
-
--- the forms in which it writes, the batches that were sent to it, the lines that it has of the last one, how many
--- notes were missed, and whether it is ready for one more batch
-pub record LatestView : Type 0 where
-  pub forms : List Form
-  pub sent : List PlainBatch
-  pub lines : List PlainLine
-  pub refused : ℕ
-  pub ready : Bool
 
 -- the lines of the batches of a history from the one of this number on
 abbrev pub lines_from : List Form → ℕ → List PlainBatch → List PlainLine

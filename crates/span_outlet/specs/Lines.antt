@@ -1,5 +1,5 @@
 -- The lines of a history.
-use Rattle.std.specs.Prelude.{ℕ, ◌==◌, List, flat_map, filter, Option, slice_get}
+use Rattle.std.specs.Prelude.{ℕ, ◌==◌, Bool, List, flat_map, filter, Option, slice_get}
 use Rattle.std.specs.List.{enumerate_from, filter_map}
 use Rattle.std.specs.Option.{option_map}
 use Rattle.span_layers.specs.declared.form.Form.{Form}
@@ -36,3 +36,13 @@ lines_of forms history = flat_map (lines_of_batch forms) (enumerate_from 0 histo
 -- those lines that a layer wrote, in order
 abbrev pub lines_of_layer : ℕ → List PlainLine → List PlainLine
 lines_of_layer layer lines = filter (λ line. line.layer == layer) lines
+
+-- An outlet that writes lines: the forms in which it writes, the batches that were sent to it, the lines that it has, how
+-- many notes were missed, and whether it is ready for one more batch. A `Kept` has the lines of all notes, a `Latest` those
+-- of the last batch.
+pub record LinesView : Type 0 where
+  pub forms : List Form
+  pub sent : List PlainBatch
+  pub lines : List PlainLine
+  pub missed : ℕ
+  pub ready : Bool

@@ -7,10 +7,17 @@ use denote.RawPtr.{Ptr}
 abbrev pub one_more : ℕ → ℕ
 one_more times = cond (times == 2 ^ 64 - 1) times (times + 1)
 
--- The name of a ring: two ends are of one ring where their names are the same, and it has as many places as its name
--- tells (`places_of`).
-pub record RingName : Type 0 where
+-- which ring it is: where its memory lies and in which heap, and the names that the proofs of its crate have for what its
+-- writer and its reader see of it
+pub record RingIdentity : Type 0 where
   pub words : Ptr
   pub slots : Ptr
-  pub names : ℕ × (ℕ × ℕ)
+  pub writer : ℕ
+  pub reader : ℕ
   pub heap : Global
+
+-- The name of a ring: how many places it has, and which ring it is. Two ends are of one ring where their names are the
+-- same.
+pub record RingName : Type 0 where
+  pub places : ℕ
+  pub identity : RingIdentity

@@ -3,10 +3,6 @@ use Rattle.std.specs.Prelude.{ℕ, Bool, List}
 use Rattle.span_outlet.specs.Batch.{PlainBatch}
 use Rattle.span_outlet.specs.Outlet.{RingName}
 
--- how many places a ring has, which its name tells
-abbrev pub places_of : RingName → ℕ
-places_of name = name.names.0
-
 -- its name, the batches sent so far, how many places are known to be free, whether it has a place for one more batch,
 -- and how often it had none
 pub record RingView : Type 0 where

@@ -3,4 +3,4 @@ pub mod Ends
 pub mod GivenOut
 pub mod OfLayer
 pub mod Reading
-pub mod Telling
+pub mod Taking

@@ -9,8 +9,8 @@ ghost use Rattle.span_outlet.specs.Drain.{TakesBatch};
 
 use crate::layer_lines::LayerLines;
 use crate::line::Line;
+use crate::note_lines::NoteLines;
 use crate::ring::{Consuming, Ring, Tap};
-use crate::told::Told;
 use span_layers::{Formatters, Say, Tellers};
 use std::alloc::Global;
 use std::marker::Model;
@@ -21,7 +21,7 @@ pub struct Step {
     /// How many were told: each has a line.
     pub told: usize,
     /// How many were missed: no line has the place of such a note.
-    pub refused: usize,
+    pub missed: usize,
 }
 
 /// Takes the batches out of a ring, and writes the lines of their notes.
@@ -33,7 +33,7 @@ pub struct Step {
 pub struct Drain<V = Formatters> {
     consumer: Consuming,
     taken: u64,
-    told: Told,
+    note_lines: NoteLines,
     formatters: V,
 }
 
@@ -50,33 +50,33 @@ impl<V> Model for Drain<V> {
 
     ghost view = { λ drain. record {
       name = name_of_consumer drain.consumer;
-      forms = drain.told.forms;
+      forms = drain.note_lines.forms;
       taken = map plain_posted (received drain.consumer);
-      lines = map plain_line drain.told.lines.items;
-      refused = drain.told.refused;
+      lines = map plain_line drain.note_lines.lines.items;
+      missed = drain.note_lines.missed;
     } };
 
     ghost invariant = { λ drain.
-        AreKept drain.told.forms (numbered (map plain_posted (received drain.consumer)))
-        (map plain_line drain.told.lines.items) drain.told.refused
+        AreKept drain.note_lines.forms (numbered (map plain_posted (received drain.consumer)))
+        (map plain_line drain.note_lines.lines.items) drain.note_lines.missed
         × (drain.taken ≡ length (received drain.consumer)) };
 }
 
 impl<F: Drop> Drain<Formatters<F>> {
     /// A drain that took nothing, and which writes as the tellers do. It takes no memory.
     pub fn new(alloc: Global, tap: Tap, tellers: Tellers<F>) -> Drain<Formatters<F>>
-        ensures { result ≡ record { name = tap; forms = tellers.forms; taken = []; lines = []; refused = 0 } }
+        ensures { result ≡ record { name = tap; forms = tellers.forms; taken = []; lines = []; missed = 0 } }
     {
         let Tap { consumer } = tap;
         let Tellers { forms, formatters } = tellers;
         Drain {
             consumer,
             taken: 0,
-            told: Told {
+            note_lines: NoteLines {
                 forms,
                 lines: Vec::new(alloc),
                 spare: Vec::new(alloc),
-                refused: 0,
+                missed: 0,
             },
             formatters,
         }
@@ -94,19 +94,19 @@ impl<V: Say> Drain<V> {
         let Drain {
             consumer,
             taken,
-            told,
+            note_lines,
             formatters,
         } = self;
         let Ok(batch) = consumer.pop() else {
             return None;
         };
-        let lines = told.lines.len();
-        told.tell_all(&*formatters, *taken, batch.notes.as_slice());
+        let lines = note_lines.lines.len();
+        note_lines.tell_all(&*formatters, *taken, batch.notes.as_slice());
         *taken += 1;
-        let more = told.lines.len() - lines;
+        let more = note_lines.lines.len() - lines;
         Some(Step {
             told: more,
-            refused: batch.notes.len() - more,
+            missed: batch.notes.len() - more,
         })
     }
 
@@ -117,7 +117,7 @@ impl<V: Say> Drain<V> {
         ensures taken { self.new.taken ≡ ring.old.sent }
         ensures before { IsPrefix self.old.taken self.new.taken }
         ensures first { IsPrefix self.old.lines self.new.lines }
-        ensures kept { AreKept self.old.forms (numbered ring.old.sent) self.new.lines self.new.refused }
+        ensures kept { AreKept self.old.forms (numbered ring.old.sent) self.new.lines self.new.missed }
         ensures name { self.new.name ≡ self.old.name }
         ensures forms { self.new.forms ≡ self.old.forms }
         ensures ring { ring.new ≡ record ring.old { free = ring.new.free } }
@@ -125,12 +125,12 @@ impl<V: Say> Drain<V> {
         let Drain {
             consumer,
             taken,
-            told,
+            note_lines,
             formatters,
         } = self;
         let standing = ring.look_beside(consumer);
         for _ in 0..standing {
-            told.tell_next(&*formatters, consumer, taken);
+            note_lines.take_first(&*formatters, consumer, taken);
         }
     }
 }
@@ -152,13 +152,13 @@ impl<V> Drain<V> {
     /// the place of a note that was missed; where none was missed, these are the lines of what was taken.
     pub fn all(&self) -> &[Line]
         ensures lines { map plain_line result.now ≡ self.now.lines }
-        ensures kept { AreKept self.now.forms (numbered self.now.taken) (map plain_line result.now) self.now.refused }
+        ensures kept { AreKept self.now.forms (numbered self.now.taken) (map plain_line result.now) self.now.missed }
         ensures apart { (missed : List NumberedNote)
             → AreTold self.now.forms (numbered self.now.taken) (map plain_line result.now) missed
             → All (HasNoLine (map plain_line result.now)) missed }
-        ensures whole { self.now.refused ≡ 0 → map plain_line result.now ≡ lines_of self.now.forms self.now.taken }
+        ensures whole { self.now.missed ≡ 0 → map plain_line result.now ≡ lines_of self.now.forms self.now.taken }
     {
-        self.told.lines.as_slice()
+        self.note_lines.lines.as_slice()
     }
 
     /// The lines of one layer, in order.
@@ -168,7 +168,7 @@ impl<V> Drain<V> {
         ensures runs { YieldsRefsInOrder (YieldsFirstRef {A = Line} (λ rest. rest)) (λ rest. rest) }
     {
         LayerLines {
-            lines: self.told.lines.as_slice().iter(),
+            lines: self.note_lines.lines.as_slice().iter(),
             layer,
         }
     }
@@ -181,10 +181,10 @@ impl<V> Drain<V> {
     }
 
     /// How many notes were missed. It stays at its greatest value.
-    pub fn refused(&self) -> u64
-        ensures { result ≡ self.now.refused }
+    pub fn missed(&self) -> u64
+        ensures { result ≡ self.now.missed }
     {
-        self.told.refused
+        self.note_lines.missed
     }
 }
 
@@ -192,24 +192,24 @@ impl<V: Drop> Drain<V> {
     /// The lines alone; they are moved. They are those of `all`.
     pub fn into_lines(self) -> Vec<Line>
         ensures lines { map plain_line result.items ≡ self.lines }
-        ensures kept { AreKept self.forms (numbered self.taken) (map plain_line result.items) self.refused }
+        ensures kept { AreKept self.forms (numbered self.taken) (map plain_line result.items) self.missed }
         ensures apart { (missed : List NumberedNote)
             → AreTold self.forms (numbered self.taken) (map plain_line result.items) missed
             → All (HasNoLine (map plain_line result.items)) missed }
-        ensures whole { self.refused ≡ 0 → map plain_line result.items ≡ lines_of self.forms self.taken }
+        ensures whole { self.missed ≡ 0 → map plain_line result.items ≡ lines_of self.forms self.taken }
     {
         let Drain {
             consumer: _,
             taken: _,
-            told,
+            note_lines,
             formatters: _,
         } = self;
-        let Told {
+        let NoteLines {
             forms: _,
             lines,
             spare: _,
-            refused: _,
-        } = told;
+            missed: _,
+        } = note_lines;
         lines
     }
 }

@@ -6,8 +6,8 @@ ghost use Rattle.span_outlet.specs.Kept.{AreKept, AreTold, GainsLines, HasNoLine
 
 use crate::batch::Batch;
 use crate::line::Line;
+use crate::note_lines::NoteLines;
 use crate::outlet::Outlet;
-use crate::told::Told;
 use span_layers::{Formatters, Say, Tellers};
 use std::alloc::{AllocError, Global};
 use std::marker::Model;
@@ -16,11 +16,11 @@ use std::marker::Model;
 ///
 /// It always has room for one more batch or lacks memory. A note is missed where its layer has no form, where its text
 /// or the place of its line was refused memory, or where more than 2^32 - 1 notes stand before it in its batch. No line
-/// has the place of a missed note, and `refused` counts them. `V` makes the texts.
+/// has the place of a missed note, and `missed` counts them. `V` makes the texts.
 #[derive(Drop)]
 pub struct Kept<V = Formatters> {
     batches: Vec<Batch>,
-    told: Told,
+    note_lines: NoteLines,
     ready: bool,
     formatters: V,
 }
@@ -28,38 +28,38 @@ pub struct Kept<V = Formatters> {
 impl<V> Model for Kept<V> {
     ghost use Rattle.std.specs.Prelude.{◌≡◌, ◌<◌, true, map, vec_len, vec_capacity};
     ghost use Rattle.span_outlet.specs.Batch.{plain_batch};
-    ghost use Rattle.span_outlet.specs.Lines.{plain_line};
-    ghost use Rattle.span_outlet.specs.Kept.{KeptView, AreKept, numbered};
+    ghost use Rattle.span_outlet.specs.Lines.{LinesView, plain_line};
+    ghost use Rattle.span_outlet.specs.Kept.{AreKept, numbered};
 
-    ghost Value = { KeptView };
+    ghost Value = { LinesView };
 
     ghost view = { λ k. record {
-      forms = k.told.forms;
+      forms = k.note_lines.forms;
       sent = map plain_batch k.batches.items;
-      lines = map plain_line k.told.lines.items;
-      refused = k.told.refused;
+      lines = map plain_line k.note_lines.lines.items;
+      missed = k.note_lines.missed;
       ready = k.ready;
     } };
 
     ghost invariant = { λ k.
-        AreKept k.told.forms (numbered (map plain_batch k.batches.items)) (map plain_line k.told.lines.items)
-        k.told.refused
+        AreKept k.note_lines.forms (numbered (map plain_batch k.batches.items)) (map plain_line k.note_lines.lines.items)
+        k.note_lines.missed
         × (k.ready ≡ true → vec_len k.batches < vec_capacity k.batches) };
 }
 
 impl<F: Drop> Kept<Formatters<F>> {
     /// An outlet to which nothing was sent, and which writes as the tellers do. It takes no memory.
     pub fn new(alloc: Global, tellers: Tellers<F>) -> Kept<Formatters<F>>
-        ensures { result ≡ record { forms = tellers.forms; sent = []; lines = []; refused = 0; ready = false } }
+        ensures { result ≡ record { forms = tellers.forms; sent = []; lines = []; missed = 0; ready = false } }
     {
         let Tellers { forms, formatters } = tellers;
         Kept {
             batches: Vec::new(alloc),
-            told: Told {
+            note_lines: NoteLines {
                 forms,
                 lines: Vec::new(alloc),
                 spare: Vec::new(alloc),
-                refused: 0,
+                missed: 0,
             },
             ready: false,
             formatters,
@@ -79,20 +79,20 @@ impl<V> Kept<V> {
     /// place of a note that was missed; where none was missed, these are the lines of the history.
     pub fn all(&self) -> &[Line]
         ensures lines { map plain_line result.now ≡ self.now.lines }
-        ensures kept { AreKept self.now.forms (numbered self.now.sent) (map plain_line result.now) self.now.refused }
+        ensures kept { AreKept self.now.forms (numbered self.now.sent) (map plain_line result.now) self.now.missed }
         ensures apart { (missed : List NumberedNote)
             → AreTold self.now.forms (numbered self.now.sent) (map plain_line result.now) missed
             → All (HasNoLine (map plain_line result.now)) missed }
-        ensures whole { self.now.refused ≡ 0 → map plain_line result.now ≡ lines_of self.now.forms self.now.sent }
+        ensures whole { self.now.missed ≡ 0 → map plain_line result.now ≡ lines_of self.now.forms self.now.sent }
     {
-        self.told.lines.as_slice()
+        self.note_lines.lines.as_slice()
     }
 
     /// How many notes were missed. It stays at its greatest value.
-    pub fn refused(&self) -> u64
-        ensures { result ≡ self.now.refused }
+    pub fn missed(&self) -> u64
+        ensures { result ≡ self.now.missed }
     {
-        self.told.refused
+        self.note_lines.missed
     }
 }
 
@@ -100,24 +100,24 @@ impl<V: Drop> Kept<V> {
     /// The lines alone; they are moved. They are those of `all`.
     pub fn into_lines(self) -> Vec<Line>
         ensures lines { map plain_line result.items ≡ self.lines }
-        ensures kept { AreKept self.forms (numbered self.sent) (map plain_line result.items) self.refused }
+        ensures kept { AreKept self.forms (numbered self.sent) (map plain_line result.items) self.missed }
         ensures apart { (missed : List NumberedNote)
             → AreTold self.forms (numbered self.sent) (map plain_line result.items) missed
             → All (HasNoLine (map plain_line result.items)) missed }
-        ensures whole { self.refused ≡ 0 → map plain_line result.items ≡ lines_of self.forms self.sent }
+        ensures whole { self.missed ≡ 0 → map plain_line result.items ≡ lines_of self.forms self.sent }
     {
         let Kept {
             batches: _,
-            told,
+            note_lines,
             ready: _,
             formatters: _,
         } = self;
-        let Told {
+        let NoteLines {
             forms: _,
             lines,
             spare: _,
-            refused: _,
-        } = told;
+            missed: _,
+        } = note_lines;
         lines
     }
 }
@@ -153,16 +153,16 @@ impl<V: Say> Outlet for Kept<V> {
         ensures sent { self.new.sent ≡ self.old.sent ++ plain_batch batch ∷ [] }
         ensures forms { self.new.forms ≡ self.old.forms }
         ensures ready { self.new.ready ≡ false }
-        ensures told { GainsLines self.old.forms (numbered_in (length self.old.sent, plain_batch batch))
-            self.old.lines self.old.refused self.new.lines self.new.refused }
+        ensures told { GainsLines self.old.forms (numbered_in (length self.old.sent) (plain_batch batch))
+            self.old.lines self.old.missed self.new.lines self.new.missed }
     {
         let Kept {
             batches,
-            told,
+            note_lines,
             ready,
             formatters,
         } = self;
-        told.tell_all(&*formatters, batches.len() as u64, batch.notes.as_slice());
+        note_lines.tell_all(&*formatters, batches.len() as u64, batch.notes.as_slice());
         *ready = false;
         batches.push_reserved(batch);
     }

@@ -10,10 +10,10 @@ ghost use Rattle.span_outlet.specs.Posted.{plain_posted};
 use crate::batch::Batch;
 use crate::known_event::KnownEvent;
 use crate::line::Line;
+use crate::note_lines::{NoteLines, recycle};
 use crate::outlet::Outlet;
 use crate::past::Past;
 use crate::posted::Posted;
-use crate::told::{Told, recycle};
 use span_layers::{Formatters, Forms, Note, Say, Tellers};
 use std::alloc::{AllocError, Global};
 use std::marker::Model;
@@ -23,14 +23,14 @@ const MOST_NOTES: usize = 16;
 
 /// An outlet that keeps no batch, and of the last one the lines of its notes.
 ///
-/// It always has room for one more batch. A note is missed as in a `Kept`, and `refused` counts those that were missed
+/// It always has room for one more batch. A note is missed as in a `Kept`, and `missed` counts those that were missed
 /// so far. `V` makes the texts, in buffers that are used again.
 #[derive(Drop)]
 pub struct Latest<V = Formatters> {
     past: Past,
     // How many batches were sent.
     count: u64,
-    told: Told,
+    note_lines: NoteLines,
     // The list of the notes that were told last, for notes to come.
     list: Option<Vec<Note>>,
     ready: bool,
@@ -40,27 +40,27 @@ pub struct Latest<V = Formatters> {
 impl<V> Model for Latest<V> {
     ghost use Rattle.std.specs.Prelude.{◌≡◌, map, length};
     ghost use Rattle.span_outlet.specs.Past.{batches_of};
-    ghost use Rattle.span_outlet.specs.Lines.{plain_line};
-    ghost use Rattle.span_outlet.specs.Latest.{LatestView, last_lines};
+    ghost use Rattle.span_outlet.specs.Lines.{LinesView, plain_line};
+    ghost use Rattle.span_outlet.specs.Latest.{last_lines};
 
-    ghost Value = { LatestView };
+    ghost Value = { LinesView };
 
     ghost view = { λ k. record {
-      forms = k.told.forms;
+      forms = k.note_lines.forms;
       sent = batches_of k.past;
-      lines = map plain_line k.told.lines.items;
-      refused = k.told.refused;
+      lines = map plain_line k.note_lines.lines.items;
+      missed = k.note_lines.missed;
       ready = k.ready;
     } };
 
     ghost invariant = { λ k. (k.count ≡ length (batches_of k.past))
-        × (k.told.refused ≡ 0 → map plain_line k.told.lines.items ≡ last_lines k.told.forms (batches_of k.past)) };
+        × (k.note_lines.missed ≡ 0 → map plain_line k.note_lines.lines.items ≡ last_lines k.note_lines.forms (batches_of k.past)) };
 }
 
 impl<F: Drop> Latest<Formatters<F>> {
     /// An outlet to which nothing was sent, and which writes as the tellers do. It takes no memory.
     pub fn new(alloc: Global, tellers: Tellers<F>) -> Latest<Formatters<F>>
-        ensures { result ≡ record { forms = tellers.forms; sent = []; lines = []; refused = 0; ready = false } }
+        ensures { result ≡ record { forms = tellers.forms; sent = []; lines = []; missed = 0; ready = false } }
     {
         let Tellers { forms, formatters } = tellers;
         Latest::with_formatters(alloc, forms, formatters)
@@ -70,16 +70,16 @@ impl<F: Drop> Latest<Formatters<F>> {
 impl<V: Drop> Latest<V> {
     /// An outlet as `new` makes it, in which `formatters` makes the texts, whatever it is.
     pub fn with_formatters(alloc: Global, forms: Forms, formatters: V) -> Latest<V>
-        ensures { result ≡ record { forms = forms; sent = []; lines = []; refused = 0; ready = false } }
+        ensures { result ≡ record { forms = forms; sent = []; lines = []; missed = 0; ready = false } }
     {
         Latest {
             past: Past::Nothing,
             count: 0,
-            told: Told {
+            note_lines: NoteLines {
                 forms,
                 lines: Vec::new(alloc),
                 spare: Vec::new(alloc),
-                refused: 0,
+                missed: 0,
             },
             list: None,
             ready: false,
@@ -92,9 +92,9 @@ impl<V> Latest<V> {
     /// The lines of the notes of the last batch, in order, but for the notes that were missed.
     pub fn lines(&self) -> &[Line]
         ensures lines { map plain_line result.now ≡ self.now.lines }
-        ensures whole { self.now.refused ≡ 0 → map plain_line result.now ≡ last_lines self.now.forms self.now.sent }
+        ensures whole { self.now.missed ≡ 0 → map plain_line result.now ≡ last_lines self.now.forms self.now.sent }
     {
-        self.told.lines.as_slice()
+        self.note_lines.lines.as_slice()
     }
 
     /// How many batches were sent.
@@ -105,10 +105,10 @@ impl<V> Latest<V> {
     }
 
     /// How many notes were missed so far. It stays at its greatest value.
-    pub fn refused(&self) -> u64
-        ensures { result ≡ self.now.refused }
+    pub fn missed(&self) -> u64
+        ensures { result ≡ self.now.missed }
     {
-        self.told.refused
+        self.note_lines.missed
     }
 }
 
@@ -139,8 +139,8 @@ impl<V: Say> Outlet for Latest<V> {
         ensures sent { self.new.sent ≡ self.old.sent ++ plain_batch batch ∷ [] }
         ensures forms { self.new.forms ≡ self.old.forms }
         ensures ready { self.new.ready ≡ false }
-        ensures told { GainsLines self.old.forms (numbered_in (length self.old.sent, plain_batch batch))
-            [] self.old.refused self.new.lines self.new.refused }
+        ensures told { GainsLines self.old.forms (numbered_in (length self.old.sent) (plain_batch batch))
+            [] self.old.missed self.new.lines self.new.missed }
     {
         self.tell(Posted::of_batch(batch));
     }
@@ -154,8 +154,8 @@ impl<V: Say> Outlet for Latest<V> {
         ensures forms { self.new.forms ≡ self.old.forms }
         ensures ready { self.new.ready ≡ false }
         ensures told { GainsLines self.old.forms
-            (numbered_in (length self.old.sent, batch_of_known event notes.items))
-            [] self.old.refused self.new.lines self.new.refused }
+            (numbered_in (length self.old.sent) (batch_of_known event notes.items))
+            [] self.old.missed self.new.lines self.new.missed }
     {
         self.tell(Posted::of_event(event, notes));
         Ok(())
@@ -184,19 +184,19 @@ impl<V: Say> Latest<V> {
         ensures sent { self.new.sent ≡ self.old.sent ++ plain_posted batch ∷ [] }
         ensures forms { self.new.forms ≡ self.old.forms }
         ensures ready { self.new.ready ≡ false }
-        ensures told { GainsLines self.old.forms (numbered_in (length self.old.sent, plain_posted batch))
-            [] self.old.refused self.new.lines self.new.refused }
+        ensures told { GainsLines self.old.forms (numbered_in (length self.old.sent) (plain_posted batch))
+            [] self.old.missed self.new.lines self.new.missed }
     {
         let Latest {
             past,
             count,
-            told,
+            note_lines,
             list,
             ready,
             formatters,
         } = self;
-        recycle(&mut told.lines, &mut told.spare);
-        told.tell_all(&*formatters, *count, batch.notes.as_slice());
+        recycle(&mut note_lines.lines, &mut note_lines.spare);
+        note_lines.tell_all(&*formatters, *count, batch.notes.as_slice());
         *ready = false;
         *count += 1;
         past.add(&batch);

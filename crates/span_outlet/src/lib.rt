@@ -12,11 +12,11 @@ mod layer_lines;
 mod line;
 mod line_reader;
 mod memory;
+mod note_lines;
 mod outlet;
 mod past;
 mod posted;
 mod ring;
-mod told;
 
 pub use batch::{Batch, Call, ParentOf, Reply};
 pub use drain::{Drain, Step};

@@ -11,8 +11,8 @@ ghost use Rattle.span_outlet.specs.inside.Reading.{reader_view, HaveNotes};
 
 use crate::given_out::GivenOut;
 use crate::line::Line;
+use crate::note_lines::NoteLines;
 use crate::ring::{Consuming, Ring, Tap};
-use crate::told::Told;
 use span_known::KnownValue;
 use span_layers::{Formatters, Note, Say, Tellers};
 use std::alloc::Global;
@@ -30,7 +30,7 @@ pub struct LineReader<V = Formatters> {
     looks: u64,
     taken: u64,
     // The lines that wait, the last one first: so the first one can be popped.
-    told: Told,
+    note_lines: NoteLines,
     // The notes of the last batch that was taken: of each line that waits the note stands here at its place.
     notes: Vec<Note>,
     // The lines that it gave out. It has no bytes.
@@ -50,16 +50,16 @@ impl<V> Model for LineReader<V> {
     ghost Value = { LineReaderView };
 
     ghost view = { λ reader.
-        reader_view (name_of_consumer reader.consumer) reader.looks reader.told.forms (received reader.consumer)
-        (lines_given reader.given.value) (reverse reader.told.lines.items) reader.told.refused };
+        reader_view (name_of_consumer reader.consumer) reader.looks reader.note_lines.forms (received reader.consumer)
+        (lines_given reader.given.value) (reverse reader.note_lines.lines.items) reader.note_lines.missed };
 
     ghost invariant = { λ reader.
-        AreLeft (reader_view (name_of_consumer reader.consumer) reader.looks reader.told.forms (received reader.consumer)
-        (lines_given reader.given.value) (reverse reader.told.lines.items) reader.told.refused)
-        × AreOfLast (reader_view (name_of_consumer reader.consumer) reader.looks reader.told.forms (received reader.consumer)
-        (lines_given reader.given.value) (reverse reader.told.lines.items) reader.told.refused)
+        AreLeft (reader_view (name_of_consumer reader.consumer) reader.looks reader.note_lines.forms (received reader.consumer)
+        (lines_given reader.given.value) (reverse reader.note_lines.lines.items) reader.note_lines.missed)
+        × AreOfLast (reader_view (name_of_consumer reader.consumer) reader.looks reader.note_lines.forms (received reader.consumer)
+        (lines_given reader.given.value) (reverse reader.note_lines.lines.items) reader.note_lines.missed)
         × (reader.taken ≡ length (received reader.consumer))
-        × HaveNotes reader.told.forms (received reader.consumer) reader.notes.items (reverse reader.told.lines.items) };
+        × HaveNotes reader.note_lines.forms (received reader.consumer) reader.notes.items (reverse reader.note_lines.lines.items) };
 }
 
 // Looks into the ring for batches, and counts the look. How many are known to stand there then.
@@ -74,35 +74,35 @@ fn look(consumer: &mut Consuming, looks: &mut u64) -> usize
 
 // Takes the batches that are known to stand in the ring, one by one, and tells their notes, until there is a line. The
 // notes of the last one are kept.
-fn take_until_told<V: Say>(
+fn take_until_line<V: Say>(
     consumer: &mut Consuming,
     taken: &mut u64,
-    told: &mut Told,
+    note_lines: &mut NoteLines,
     notes: &mut Vec<Note>,
     formatters: &V,
     standing: usize,
 )
     requires standing { standing ≡ length (known_items consumer.old) }
     requires number { taken.old ≡ length (received consumer.old) }
-    requires nothing { told.old.lines.items ≡ [] }
+    requires nothing { note_lines.old.lines.items ≡ [] }
     ensures number { taken.new ≡ length (received consumer.new) }
     ensures name { name_of_consumer consumer.new ≡ name_of_consumer consumer.old }
-    ensures forms { told.new.forms ≡ told.old.forms }
+    ensures forms { note_lines.new.forms ≡ note_lines.old.forms }
     ensures batches { TakesBatches
-        (reader_view (name_of_consumer consumer.old) 0 told.old.forms (received consumer.old) [] [] told.old.refused)
-        (reader_view (name_of_consumer consumer.new) 0 told.new.forms (received consumer.new) [] told.new.lines.items
-        told.new.refused) }
+        (reader_view (name_of_consumer consumer.old) 0 note_lines.old.forms (received consumer.old) [] [] note_lines.old.missed)
+        (reader_view (name_of_consumer consumer.new) 0 note_lines.new.forms (received consumer.new) [] note_lines.new.lines.items
+        note_lines.new.missed) }
     ensures last { AreOfLast
-        (reader_view (name_of_consumer consumer.new) 0 told.new.forms (received consumer.new) [] told.new.lines.items
-        told.new.refused) }
-    ensures notes { HaveNotes told.new.forms (received consumer.new) notes.new.items told.new.lines.items }
+        (reader_view (name_of_consumer consumer.new) 0 note_lines.new.forms (received consumer.new) [] note_lines.new.lines.items
+        note_lines.new.missed) }
+    ensures notes { HaveNotes note_lines.new.forms (received consumer.new) notes.new.items note_lines.new.lines.items }
     ensures fifo { map plain_posted (received consumer.new ++ known_items consumer.new)
         ≡ map plain_posted (received consumer.old ++ known_items consumer.old) }
-    ensures none_left { told.new.lines.items ≡ [] → known_items consumer.new ≡ [] }
+    ensures none_left { note_lines.new.lines.items ≡ [] → known_items consumer.new ≡ [] }
 {
     for _ in 0..standing {
-        *notes = told.tell_next(formatters, consumer, taken);
-        if !told.lines.is_empty() {
+        *notes = note_lines.take_first(formatters, consumer, taken);
+        if !note_lines.lines.is_empty() {
             return;
         }
     }
@@ -118,7 +118,7 @@ impl<F: Drop> LineReader<Formatters<F>> {
           taken = [];
           given = [];
           waiting = [];
-          refused = 0;
+          missed = 0;
         } }
     {
         let Tap { consumer } = tap;
@@ -127,11 +127,11 @@ impl<F: Drop> LineReader<Formatters<F>> {
             consumer,
             looks: 0,
             taken: 0,
-            told: Told {
+            note_lines: NoteLines {
                 forms,
                 lines: Vec::new(alloc),
                 spare: Vec::new(alloc),
-                refused: 0,
+                missed: 0,
             },
             notes: Vec::new(alloc),
             given: GivenOut::nothing(),
@@ -159,18 +159,18 @@ impl<V: Say> LineReader<V> {
             consumer,
             looks,
             taken,
-            told,
+            note_lines,
             notes,
             given: _,
             formatters,
         } = self;
-        if !told.lines.is_empty() {
+        if !note_lines.lines.is_empty() {
             return true;
         }
         let standing = look(consumer, looks);
-        take_until_told(consumer, taken, told, notes, &*formatters, standing);
-        told.lines.reverse();
-        !told.lines.is_empty()
+        take_until_line(consumer, taken, note_lines, notes, &*formatters, standing);
+        note_lines.lines.reverse();
+        !note_lines.lines.is_empty()
     }
 
     /// The same where both ends of the ring are in one thread, so that the look at the ring is up to date: false means
@@ -185,7 +185,7 @@ impl<V: Say> LineReader<V> {
         ensures given { self.new.given ≡ self.old.given }
         ensures sent { self.new.waiting ≡ [] → self.new.taken ≡ ring.old.sent }
         ensures read { self.new.waiting ≡ [] → HasGiven ring.old.sent self.new }
-        ensures whole { self.new.waiting ≡ [] → self.new.refused ≡ 0
+        ensures whole { self.new.waiting ≡ [] → self.new.missed ≡ 0
             → self.new.given ≡ lines_of self.new.forms ring.old.sent }
         ensures name { self.new.name ≡ self.old.name }
         ensures forms { self.new.forms ≡ self.old.forms }
@@ -195,19 +195,19 @@ impl<V: Say> LineReader<V> {
             consumer,
             looks,
             taken,
-            told,
+            note_lines,
             notes,
             given: _,
             formatters,
         } = self;
-        if !told.lines.is_empty() {
+        if !note_lines.lines.is_empty() {
             return true;
         }
         *looks = looks.saturating_add(1);
         let standing = ring.look_beside(consumer);
-        take_until_told(consumer, taken, told, notes, &*formatters, standing);
-        told.lines.reverse();
-        !told.lines.is_empty()
+        take_until_line(consumer, taken, note_lines, notes, &*formatters, standing);
+        note_lines.lines.reverse();
+        !note_lines.lines.is_empty()
     }
 }
 
@@ -219,7 +219,7 @@ impl<V> LineReader<V> {
         ensures left { AreLeft self.now }
         ensures level { AreOfLast self.now }
     {
-        self.told.lines.last()
+        self.note_lines.lines.last()
     }
 
     /// The note whose line is the first one that waits. None where no line waits.
@@ -243,8 +243,12 @@ impl<V> LineReader<V> {
         ensures rest { self.new ≡ record self.old { given = self.new.given; waiting = self.new.waiting } }
         ensures left { AreLeft self.new }
     {
-        let LineReader { told, given, .. } = self;
-        let line = told.lines.pop()?;
+        let LineReader {
+            note_lines,
+            given,
+            ..
+        } = self;
+        let line = note_lines.lines.pop()?;
         GivenOut::add(given, &line);
         Some(line)
     }
@@ -256,7 +260,7 @@ impl<V> LineReader<V> {
         ensures left { AreLeft self.new }
         ensures level { AreOfLast self.old }
     {
-        let waited = self.told.lines.len();
+        let waited = self.note_lines.lines.len();
         while let Some(_line) = self.next() {}
         waited
     }
@@ -288,9 +292,9 @@ impl<V> LineReader<V> {
     }
 
     /// How many notes were missed. It stays at its greatest value.
-    pub fn refused(&self) -> u64
-        ensures { result ≡ self.now.refused }
+    pub fn missed(&self) -> u64
+        ensures { result ≡ self.now.missed }
     {
-        self.told.refused
+        self.note_lines.missed
     }
 }

@@ -4,7 +4,6 @@ ghost use Rattle.rtrb.specs.Ring.{received, known_items, ConsumerLooked};
 ghost use Rattle.span_outlet.specs.Batch.{plain_batch};
 ghost use Rattle.span_outlet.specs.KnownEvent.{batch_of_known};
 ghost use Rattle.span_outlet.specs.Outlet.{one_more};
-ghost use Rattle.span_outlet.specs.Ring.{places_of};
 ghost use Rattle.span_outlet.specs.inside.Ends.{name_of_consumer};
 ghost use Rattle.span_outlet.specs.Posted.{plain_posted};
 
@@ -92,7 +91,7 @@ impl Ring {
           ready = false;
           times_full = 0;
         }) }
-        ensures places { IfOk result (λ ends. places_of ends.1 ≡ limits.now.ring) }
+        ensures places { IfOk result (λ ends. ends.1.places ≡ limits.now.ring) }
         ensures memory { IfErr result (λ fault. fault ≡ Fault.Memory) }
     {
         let places = limits.limits().ring as usize;

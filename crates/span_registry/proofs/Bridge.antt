@@ -6,10 +6,11 @@ use Rattle.std.proofs.lemmas.Bool.{cases_Bool, false≢true}
 use Rattle.std.proofs.lemmas.Bool.Decides.{eqb_tells}
 use Rattle.span_id.specs.Id.{slot_of, IsId}
 use Rattle.span_id.specs.Meta.{KeyValue, PlainMeta}
+use Rattle.span_layers.specs.Filter.{admission_set}
 use Rattle.span_forest.specs.declared.span.Holder.{Holder}
 use Rattle.span_forest.specs.declared.span.Holder.TheVariants.{Handle, Entry}
-use Rattle.span_forest.specs.Node.{Node}
-use Rattle.span_forest.specs.Spans.{Spans, find, IsOpen, with_change, with_node}
+use Rattle.span_forest.specs.Node.{Node, new_node}
+use Rattle.span_forest.specs.Spans.{Spans, find, IsOpen, with_change, with_entry}
 use Rattle.span_forest.specs.Live.{stands_in, is_live}
 use Rattle.span_forest.specs.Holders.{IsHeld, held_in, with_more, with_less}
 use Rattle.span_forest.specs.Keep.{with_holder}
@@ -20,9 +21,10 @@ use Rattle.span_forest.proofs.Spared.{kept_passes, passing_kept, not_some, none_
 use Rattle.span_forest.proofs.Upheld.{IsUpheld}
 use Rattle.span_outlet.specs.Request.{clone_span, cloned, new_span, made}
 use Rattle.span_core.specs.World.{World}
-use Rattle.span_core.specs.Step.{made_node, is_open}
+use Rattle.span_core.specs.Step.{is_open}
 use Rattle.span_core.specs.History.{IsLegal}
 use Rattle.span_core.specs.Core.{CoreView, IsAccepted}
+use Rattle.span_core.proofs.Deciding.{held_from}
 use Rattle.span_core.proofs.Legal.{whole}
 use Rattle.span_core.proofs.Holds.{handles-released_same, handles-released_other, handles-left}
 use Rattle.span_seats.specs.RootView.{among}
@@ -67,7 +69,7 @@ cloned_of core new worker id accepted =
     let after : new.world.spans ≡ with_holder core.world.spans id Handle = ap (λ (v : World). v.spans) accepted.step.changes.after in
     record {
       rest = λ x. ap (λ (s : Spans). is_open s x) after ∙ open-changed (with_more Handle) core.world.spans id x;
-      one_more = λ x. ap (λ (s : Spans). held_in Handle (find s x)) after ∙ handles-more core.world.spans id x accepted.step.changes.held;
+      one_more = λ x. ap (λ (s : Spans). held_in Handle (find s x)) after ∙ handles-more core.world.spans id x (held_from core.world.spans id accepted.step.changes.known);
     }
 
 -- ---- a holder given back
@@ -160,15 +162,15 @@ pub added_of : (core new : CoreView) (worker : ℕ) (meta : PlainMeta) (fields :
 added_of core new worker meta fields parent id legal one range accepted =
     let w = (whole _ _ _ _ legal).settled in
     let spans = core.world.spans in
-    let node = made_node core.rules meta fields parent in
+    let node = new_node meta fields parent (admission_set core.rules meta.target meta.level) in
     let step = accepted.step.changes in
-    let after : new.world.spans ≡ with_node spans id node = ap (λ (v : World). v.spans) step.after in
-    let absent : find spans id ≡ None = not_some (find spans id) (λ o. false≢true (sym step.not_issued ∙ w.open_issued id o)) in
+    let after : new.world.spans ≡ with_entry spans id node = ap (λ (v : World). v.spans) step.after in
+    let absent : find spans id ≡ None = not_some (find spans id) (λ o. false≢true (sym step.id_is_new.1 ∙ w.open_issued id o)) in
     let here : find new.world.spans id ≡ Some node = ap (λ (s : Spans). find s id) after ∙ find-with_same spans id node absent in
     let other : (x : ℕ) → x ≢ id → find new.world.spans x ≡ find spans x = λ x ne. ap (λ (s : Spans). find s x) after ∙ find-with_other spans id x node ne in
     let apart : (x : ℕ) → IsOpen spans x → x ≢ id = λ x o e. none_open (find spans id) absent (subst (λ (k : ℕ). IsOpen spans k) e o) in
     record {
-      positive = step.in_layout.0;
+      positive = step.id_is_new.0.0;
       slot_in = subst (λ k. slot_of id < k) (ap (λ l. l.slots) accepted.limits) (range id (ap is_some here));
       free = λ x o e. apart x o (one x id (ap is_some (other x (apart x o)) ∙ o) (ap is_some here) e);
       rest = λ x. elim (eqb_tells id x) [

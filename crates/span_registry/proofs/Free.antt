@@ -1,5 +1,5 @@
 -- What holds whenever the lock is free: what a call has from it, and why it holds again after the call.
-use Rattle.std.proofs.Common.{◌≡◌, ℕ, ◌+◌, ◌^◌, ◌<◌, Option, Some, None, List, [], ◌∷◌, ◌++◌, length, refl, sym, ap, ◌∙◌, subst, arith}
+use Rattle.std.proofs.Common.{◌≡◌, ℕ, ◌+◌, ◌^◌, ◌<◌, true, false, Option, Some, None, List, [], ◌∷◌, ◌++◌, length, refl, sym, ap, ◌∙◌, subst, arith}
 use Rattle.span_id.specs.declared.fault.Fault.{Fault}
 use Rattle.span_id.specs.declared.limits.Limits.{Limits}
 use Rattle.span_layers.specs.Filter.{Filter}
@@ -14,7 +14,9 @@ use Rattle.span_outlet.specs.Request.{Request, Answer, worker_of}
 use Rattle.span_outlet.specs.Batch.{PlainBatch}
 use Rattle.span_core.specs.History.{IsLegal}
 use Rattle.span_core.specs.Handles.{handles_given_out, handles_given_back}
-use Rattle.span_core.specs.Core.{CoreView, IsRefused, IsNotWanted}
+use Rattle.span_core.specs.Step.{is_wanted_call}
+use Rattle.span_core.specs.Core.{CoreView, is_named, IsRefused, IsNotWanted}
+use Rattle.span_core.proofs.Judging.{unwanted_named}
 use Rattle.span_seats.specs.declared.view.RootView.{RootView}
 use Rattle.span_seats.specs.RootView.{handle_count}
 use Rattle.span_registry.specs.inside.Seated.{AreSeated}
@@ -99,6 +101,12 @@ module _ {limits : Limits} {rules : List Filter} {forms : List Form} {ring : Opt
       → HoldsWhenFree limits rules forms ring handle_parts call_parts handles calls history after new
   free_not_wanted {request} {after} {new} none seated =
       subst (λ (v : CoreView). HoldsWhenFree limits rules forms ring handle_parts call_parts handles calls history after v) (sym none.same) (free_same (subst (λ (v : CoreView). AreSeated after v) none.same seated))
+
+  -- its names are names, and no rule of the registry admits it
+  pub free_unwanted : {request : Request} {new : CoreView} → IsNotWanted core request new → (is_named request ≡ true) × (is_wanted_call rules request ≡ false)
+  free_unwanted {request} {new} none =
+      let is = unwanted_named core request new none in
+      (is.0, subst (λ (r : List Filter). is_wanted_call r request ≡ false) free.rules_are is.1)
 
   -- a call was accepted, and the books moved with it
   pub free_counted : {request : Request} {answer : Answer} {after : RootView} {new : CoreView} {handles_after calls_after : ℕ} {history_after : List PlainBatch} → MayBeCounted core request answer new → AreSeated after new

@@ -14,9 +14,10 @@ use Rattle.span_forest.specs.Release.{closing_list, spans_left}
 use Rattle.span_outlet.specs.declared.batch.ParentOf.{ParentOf}
 use Rattle.span_outlet.specs.Request.{Request, Answer, clone_span, cloned, try_close, released, enter, entered, exit, exited, record_fields, recorded, event, told}
 use Rattle.span_core.specs.World.{World}
-use Rattle.span_core.specs.Step.{closed_by_exit, stays_inside, is_open}
+use Rattle.span_core.specs.Step.{closed_by_exit, stays_inside, is_open, is_known}
 use Rattle.span_core.specs.History.{IsLegal}
-use Rattle.span_core.specs.Core.{CoreView, IsAccepted, IsRefused, is_known}
+use Rattle.span_core.specs.Core.{CoreView, IsAccepted, IsRefused, WhyRefused}
+use Rattle.span_core.proofs.Judging.{tells}
 use Rattle.span_core.proofs.Legal.{whole}
 use Rattle.span_core.proofs.Holds.{held-changed}
 use Rattle.span_seats.specs.declared.view.HandleView.{HandleView}
@@ -50,12 +51,12 @@ pub seated_refused : (core new : CoreView) (request : Request) (fault : Fault) (
 seated_refused core new request fault r refused a = subst (λ (v : CoreView). AreSeated r v) (sym refused.unchanged) a
 
 -- what the call names is there, so it isn't refused as unknown
-pub never_unknown : (core new : CoreView) (request : Request) (fault : Fault) → is_known core request ≡ true → IsRefused core request fault new → fault ≢ Unknown
+pub never_unknown : (core new : CoreView) (request : Request) (fault : Fault) → is_known core.world.spans request ≡ true → IsRefused core request fault new → fault ≢ Unknown
 never_unknown core new request fault known refused e =
-    true≢false (sym known ∙ (subst (λ (f : Fault). IsRefused core request f new) e refused).why.2)
+    true≢false (sym known ∙ tells core request Unknown (subst (λ (f : Fault). WhyRefused core request f) e refused.why))
 
 -- a call on a handle whose span is there: it may be counted, or it was refused, and not as unknown
-pub done_of : {T : Type 0} (r : Result T Fault) (core new : CoreView) (request : Request) (answer : T → Answer) → is_known core request ≡ true
+pub done_of : {T : Type 0} (r : Result T Fault) (core new : CoreView) (request : Request) (answer : T → Answer) → is_known core.world.spans request ≡ true
     → IsLegal core.rules core.limits.workers core.sent core.world → IsLegal new.rules new.limits.workers new.sent new.world → length new.sent < 2 ^ 64
     → IfOk r (λ x. IsAccepted core request (answer x) new) → IfErr r (λ fault. IsRefused core request fault new)
     → MatchResult r (λ x. MayBeCounted core request (answer x) new) (λ fault. IsRefusedWhereHeld core request fault new)

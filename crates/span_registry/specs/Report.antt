@@ -46,7 +46,7 @@ counts_of report = record {
 -- that were missed
 pub record Tells (core : CoreView) (forms : List Form) (report : Report) : Type 0 where
   pub counts : AreCounts core (counts_of report)
-  pub lines : AreKept forms (numbered core.sent) (map plain_line report.lines.items) report.refused
+  pub lines : AreKept forms (numbered core.sent) (map plain_line report.lines.items) report.missed
 
 -- this core kept these limits: each count is at most the greatest, each open span is in one of the slots, and the calls
 -- can be counted

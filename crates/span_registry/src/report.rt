@@ -37,5 +37,5 @@ pub struct Report {
     /// The lines of the notes, in order, but for the notes that were missed.
     pub lines: Vec<Line>,
     /// How many notes were missed. It stays at its greatest value.
-    pub refused: u64,
+    pub missed: u64,
 }

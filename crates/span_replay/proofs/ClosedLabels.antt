@@ -13,6 +13,7 @@ use Rattle.span_outlet.specs.Request as call
 use Rattle.span_core.specs.Core.{CoreView, IsDue}
 use Rattle.span_core.specs.Outcome.{Outcome}
 use Rattle.span_core.proofs.Deciding.{handle_from}
+use Rattle.span_core.proofs.Judging.{due_from}
 use Rattle.span_core.proofs.Outcomes.{due_outcome}
 use Rattle.span_core.proofs.Holds.{handles-released_same, handles-released, total-none}
 use Rattle.span_core.proofs.Steady.{IsSteady}
@@ -42,7 +43,7 @@ close_done core labels id tracked low light held =
     (record { leads = done_leads core labels (call.try_close 0 id) tracked low (λ j e. cc) due; fewer = handles-released core.world.spans id; stacks = refl }, handles-released_same core.world.spans id)
   where
     due : IsDue core (call.try_close 0 id)
-    due = record { named = refl; wanted = refl; known = handle_from core.world.spans id held; counts = lt-ltb (length core.sent) (2 ^ 64 - 1) (omega (arith, light)); slot = refl; inside = refl }
+    due = due_from core (call.try_close 0 id) (record { named = refl; wanted = refl; known = handle_from core.world.spans id held; counts = lt-ltb (length core.sent) (2 ^ 64 - 1) (omega (arith, light)); slot = refl; inside = refl })
 
 closes_nowhere : (core : CoreView) (labels : Bound) → IsTracked core labels → Closes core labels core
 closes_nowhere core labels tracked = record { leads = leads_nowhere core labels 0 tracked; fewer = λ j. omega arith; stacks = refl }

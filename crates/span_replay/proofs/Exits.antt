@@ -17,6 +17,7 @@ use Rattle.span_outlet.specs.Request as call
 use Rattle.span_core.specs.Core.{CoreView, IsDue}
 use Rattle.span_core.specs.Outcome.{Outcome}
 use Rattle.span_core.proofs.Accepting.{held_open, inside_held}
+use Rattle.span_core.proofs.Judging.{due_from}
 use Rattle.span_core.proofs.Worlds.{one}
 use Rattle.span_core.proofs.Outcomes.{due_outcome}
 use Rattle.span_core.proofs.Weights.{weight}
@@ -51,7 +52,7 @@ exit_done core labels worker id tracked low light inside =
     there = ap is_some (held_open core.world.spans id Entry (inside_held core.world.spans core.world.stacks worker id tracked.steady.world within inside)).1
 
     due : IsDue core (call.exit worker id)
-    due = record { named = refl; wanted = refl; known = there; counts = lt-ltb (length core.sent) (2 ^ 64 - 1) (omega (arith, light)); slot = refl; inside = inside }
+    due = due_from core (call.exit worker id) (record { named = refl; wanted = refl; known = there; counts = lt-ltb (length core.sent) (2 ^ 64 - 1) (omega (arith, light)); slot = refl; inside = inside })
 
 -- a worker leaves what it has entered
 record Leaves (core : CoreView) (labels : Bound) (worker : ℕ) (new : CoreView) : Type 0 where

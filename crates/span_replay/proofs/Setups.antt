@@ -7,6 +7,8 @@ use Rattle.serde_json.specs.Find.{as_object}
 use Rattle.span_layers.specs.Rule.{Pair}
 use Rattle.span_layers.specs.declared.form.Form.{Form}
 use Rattle.span_layers.specs.declared.form.Form.TheVariants.{Compact}
+use Rattle.span_layers.specs.declared.style.TheConstants.FmtSpan.{FULL}
+use Rattle.span_layers.specs.FmtSpan.{bits_of}
 use Rattle.span_replay.specs.Meaning.{at_stage, stage_after, turn_of, value_turn}
 use Rattle.span_script.specs.Operation.{Operation, set_limits, add_layer, make, on_span, record_fields, tell, find, Op, Stage, at_start, in_setup, running, limits_op, layer_op, new_op, span_op, record_op, event_op, find_op, op_at, op_of, sets_up, is_setup, operation_of, keys_of, limits_of, layer_of, optional, limit_in, form_in, kinds_in, rule_in, all_targets}
 use Rattle.span_script.specs.Reason.{◌>>=◌, StopsFor, or_fault}
@@ -46,7 +48,7 @@ layer_by (Err r) b c op e = let bad : ⊥ = cc in absurd bad
 
 layer_sets_up : (line : Data) (op : Operation) → layer_of line ≡ Ok op → SetsUp op
 unfolding layer_of
-layer_sets_up line op e = layer_by (optional key.Form form_in Compact line) (optional key.Spans kinds_in 15 line) (optional key.Rule rule_in all_targets line) op e
+layer_sets_up line op e = layer_by (optional key.Form form_in Compact line) (optional key.Spans kinds_in (bits_of FULL) line) (optional key.Rule rule_in all_targets line) op e
 
 keys_set_up : (workers : ℕ) (stage : Stage) (line : Data) (op : Operation) (at : Op) → sets_up at ≡ true → keys_of workers stage line at ≡ Ok op → SetsUp op
 keys_set_up workers at_start line op limits_op h k = limits_set_up line op k

@@ -1,17 +1,16 @@
 -- What is written for a call: the lines that the history has more of, and the answer.
-use Rattle.std.proofs.Common.{◌≡◌, ℕ, ◌+◌, ◌<◌, ◌≤◌, Bool, true, false, not, if◌then◌else◌, List, [], ◌∷◌, ◌++◌, length, drop, get_or, flat_map, Option, Result, Ok, Err, refl, sym, ap, subst, ◌∙◌, arith, append_assoc, append-nil, length-append, ◌&&◌, ◌-◌, map}
+use Rattle.std.proofs.Common.{◌≡◌, ℕ, ◌+◌, ◌<◌, ◌≤◌, Bool, if◌then◌else◌, List, [], ◌∷◌, ◌++◌, length, drop, get_or, flat_map, Option, Result, Ok, Err, refl, sym, ap, subst, ◌∙◌, arith, append_assoc, append-nil, length-append, ◌-◌, map}
 use Rattle.std.specs.Prelude.{IfErr, OnOk, ⊤}
 use Rattle.std.proofs.lemmas.List.{drop_more, drop_all}
 use Rattle.std.specs.List.{enumerate_from}
 use Rattle.span_id.specs.declared.limits.Limits.{Limits}
 use Rattle.span_layers.specs.declared.form.Form.{Form}
 use Rattle.span_outlet.specs.Batch.{PlainBatch}
-use Rattle.span_core.specs.Core.{CoreView, is_named, is_wanted_call, is_known, may_count, may_send, has_slot, is_inside}
+use Rattle.span_core.specs.Core.{CoreView}
 use Rattle.span_outlet.specs.Lines.{PlainLine, plain_line, lines_of_batch}
 use Rattle.span_outlet.specs.Latest.{lines_from, last_lines}
 use Rattle.span_outlet.specs.declared.line.Line.{Line}
 use Rattle.span_outlet.specs.Request as call
-use Rattle.span_id.specs.declared.fault.Fault.TheVariants.{Unknown, CountFull, Full, NotEntered, BadName}
 use Rattle.span_core.specs.Outcome.{Outcome, refused, not_wanted, accepted, outcome}
 use Rattle.span_replay.specs.Answer.{answer_text}
 use Rattle.span_replay.specs.inside.Calls.{IsMade}
@@ -22,6 +21,7 @@ use Rattle.span_script.specs.Reason.{◌>>=◌}
 use Rattle.span_replay.specs.Requests.{request_of_new}
 use Rattle.span_stack.specs.Stack.{current}
 use Rattle.span_core.specs.World.{stack_of}
+use Rattle.span_core.proofs.OutcomeCases.{by_outcome}
 use Rattle.span_script.specs.declared.reason.Reason.TheVariants.{LabelTaken}
 use Rattle.span_replay.specs.inside.Running.{StopsAs, RunsAs, IsWrittenCall, IsWritten, core_in}
 use Rattle.span_replay.specs.inside.Sending.{IsAtMostOneMore}
@@ -74,28 +74,12 @@ pub record Adds (core : CoreView) (request : call.Request) (o : Outcome) : Type 
   pub enough : length core.sent ≤ length (core_left core o).sent
   pub most : length (core_left core o).sent ≤ length core.sent + 1
 
-by_test : (P : Outcome → Type 0) (b : Bool) (x y : Outcome) → P x → P y → P (if not b then x else y)
-by_test P true x y px py = py
-by_test P false x y px py = px
-
 outcome_adds : (core : CoreView) (request : call.Request) → Adds core request (outcome core request)
 outcome_adds core request =
-    by_test P (is_named request) (refused BadName) _ none
-    (by_test P (is_wanted_call core request) not_wanted _ unwanted
-    (by_test P (is_known core request) (refused Unknown) _ none
-    (by_test P (may_count core request && may_send core) (refused CountFull) _ none
-    (by_test P (has_slot core request) (refused Full) _ none
-    (by_test P (is_inside core request) (refused NotEntered) _ none
-    (record { lines = lines_more core.forms core.sent _; enough = one_enough core.sent _; most = one_most core.sent _ }))))))
-  where
-    P : Outcome → Type 0
-    P o = Adds core request o
-
-    none : {fault : _} → Adds core request (refused fault)
-    none = record { lines = no_lines core.forms core.sent; enough = omega arith; most = omega arith }
-
-    unwanted : Adds core request not_wanted
-    unwanted = record { lines = no_lines core.forms core.sent; enough = omega arith; most = omega arith }
+    by_outcome (λ o. Adds core request o) core request
+    (λ fault. record { lines = no_lines core.forms core.sent; enough = omega arith; most = omega arith })
+    (record { lines = no_lines core.forms core.sent; enough = omega arith; most = omega arith })
+    (λ due. record { lines = lines_more core.forms core.sent _; enough = one_enough core.sent _; most = one_most core.sent _ })
 
 -- the text of a call is that of the lines that it adds, and then its answer
 call_text : (core : CoreView) (request : call.Request) (o : Outcome) → outcome_text core request o ≡ flat_map note_line (added_lines core request o) ++ answer_text (answer_for o)
@@ -207,15 +191,7 @@ none_written sent forms number written text text' number_is same kept =
 
 kept_limits : (core : CoreView) (request : call.Request) → (core_left core (outcome core request)).limits ≡ core.limits
 kept_limits core request =
-    by_test P (is_named request) (refused BadName) _ refl
-    (by_test P (is_wanted_call core request) not_wanted _ refl
-    (by_test P (is_known core request) (refused Unknown) _ refl
-    (by_test P (may_count core request && may_send core) (refused CountFull) _ refl
-    (by_test P (has_slot core request) (refused Full) _ refl
-    (by_test P (is_inside core request) (refused NotEntered) _ refl refl)))))
-  where
-    P : Outcome → Type 0
-    P o = (core_left core o).limits ≡ core.limits
+    by_outcome (λ o. (core_left core o).limits ≡ core.limits) core request (λ fault. refl) refl (λ due. refl)
 
 -- the number of the workers is still that of the limits
 pub same_workers : (old : CoreView) (request : call.Request) (answer : Answer) (mid new : CoreView) (workers workers' : ℕ)

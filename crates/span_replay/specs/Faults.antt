@@ -1,12 +1,12 @@
 -- The faults of a script that rest on its labels.
 use Rattle.std.specs.Prelude.{ℕ, Bool, false, if◌then◌else◌, List, Option, Some, None, Result, Ok, Err, ⊤}
 use Rattle.span_forest.specs.Spans as forest
-use Rattle.span_core.specs.Core.{has_handle}
 use Rattle.span_replay.specs.Labels.{Bound, id_in}
 use Rattle.span_script.specs.Operation.{SpanKey, by_label, by_id, Parent, current, root, named}
 use Rattle.span_script.specs.Reason.{or_fault}
 use Rattle.span_script.specs.declared.reason.Reason.{Reason}
 use Rattle.span_script.specs.declared.reason.Reason.TheVariants.{NoSuchLabel, LabelTaken}
+use Rattle.span_core.specs.Step.{has_handle}
 
 -- the id of the span that a line names: a label has to be bound
 abbrev pub id_of_key : Bound → SpanKey → Result ℕ Reason

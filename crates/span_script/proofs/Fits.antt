@@ -6,6 +6,8 @@ use Rattle.serde_json.specs.Data.{Data}
 use Rattle.serde_json.specs.Find.{get, as_object, as_str}
 use Rattle.span_id.specs.declared.level.Level.TheVariants.{Info}
 use Rattle.span_layers.specs.declared.form.Form.TheVariants.{Compact}
+use Rattle.span_layers.specs.declared.style.TheConstants.FmtSpan.{FULL}
+use Rattle.span_layers.specs.FmtSpan.{bits_of}
 use Rattle.span_script.specs.Key.{key_text}
 use Rattle.span_script.specs.Operation.{Operation, set_limits, add_layer, make, on_span, record_fields, tell, find, Stage, at_start, in_setup, running, Op, limits_op, layer_op, new_op, span_op, record_op, event_op, find_op, required, given_or, optional, below, whole_number, worker_in, limit_in, form_in, kinds_in, rule_in, all_targets, level_in, parent_key_in, field_list_in, span_key_in, old_id_in, op_of, current, limits_of, layer_of, new_of, on_span_of, record_of, event_of, find_by_span, find_by, find_of, keys_of, operation_of}
 use Rattle.span_script.specs.Reason.{◌>>=◌, or_fault, AnswersOrStops}
@@ -74,7 +76,7 @@ module _ (workers : ℕ) (some : 0 < workers) where
   unfolding layer_of
   layer_fits stage line =
       then_ok (optional key.Form form_in Compact line) _ (λ form.
-      then_ok (optional key.Spans kinds_in 15 line) _ (λ spans.
+      then_ok (optional key.Spans kinds_in (bits_of FULL) line) _ (λ spans.
       then_ok (optional key.Rule rule_in all_targets line) _ (λ rule. record { is = tt })))
 
   new_fits : (stage : Stage) (line : Data) → WhereOk (new_of workers line) (IsFit workers stage)

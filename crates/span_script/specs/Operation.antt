@@ -12,6 +12,8 @@ use Rattle.span_id.specs.Id.{slots_in_layout, generations_in_layout, id_of, old_
 use Rattle.span_layers.specs.Rule.{Pair}
 use Rattle.span_layers.specs.declared.form.Form.{Form}
 use Rattle.span_layers.specs.declared.form.Form.TheVariants.{Compact, Json}
+use Rattle.span_layers.specs.declared.style.TheConstants.FmtSpan.{FULL}
+use Rattle.span_layers.specs.FmtSpan.{bits_of}
 use Rattle.span_script.specs.Key.{key_text}
 use Rattle.span_script.specs.Reason.{◌>>=◌, or_fault}
 use Rattle.span_script.specs.declared.key.Key.{Key}
@@ -209,7 +211,7 @@ form_in value = option_and_then form_named (as_str value)
 
 -- a set of the four kinds of notes on spans, as a number
 abbrev pub kinds_in : Data → Option ℕ
-kinds_in value = option_and_then (at_most 15) (whole_number value)
+kinds_in value = option_and_then (at_most (bits_of FULL)) (whole_number value)
 
 -- a pair of a prefix and the greatest level that it lets in
 abbrev pub prefix_in : Data → Option Pair
@@ -244,7 +246,7 @@ limits_of line = do
 unfoldable pub layer_of : Data → Result Operation Reason
 layer_of line = do
   form ← optional key.Form form_in Compact line
-  spans ← optional key.Spans kinds_in 15 line
+  spans ← optional key.Spans kinds_in (bits_of FULL) line
   rule ← optional key.Rule rule_in all_targets line
   Ok (add_layer (record { form = form; spans = spans; rule = rule }))
 

@@ -111,13 +111,13 @@ pub fn form<'v, V: JsonValue<'v>>(line: V) -> Result<Form, Reason>
 
 /// The kinds of notes on spans that a layer wants, all where the line gives none.
 pub fn kinds<'v, V: JsonValue<'v>>(line: V) -> Result<FmtSpan, Reason>
-    ensures { Answers bits_of result (optional Key.Spans kinds_in 15 (V.json line)) }
+    ensures { Answers bits_of result (optional Key.Spans kinds_in (bits_of FmtSpan.FULL) (V.json line)) }
 {
     let Some(value) = line.member(Key::Spans.text()) else {
         return Ok(FmtSpan::FULL);
     };
     match value.number() {
-        Some(bits) if bits <= 15 => Ok(FmtSpan::from_bits_retain(bits as u8)),
+        Some(bits) if bits <= u64::from(FmtSpan::FULL.bits()) => Ok(FmtSpan::from_bits_retain(bits as u8)),
         _ => Err(Reason::BadKey(Key::Spans)),
     }
 }

@@ -8,9 +8,9 @@ use Rattle.span_slots.proofs.Ids.{id_again, slot_of_id}
 use Rattle.span_id.specs.Id.{id_of, slot_of, generation_of, IsId}
 use Rattle.span_slots.specs.declared.cells.Cell.{Cell}
 use Rattle.span_slots.specs.inside.Cells.{row_of}
-use Rattle.span_slots.specs.Table.{Table, with_value, value_at, with_entry, without_entry, table_removed, table_inserted, next_id, next_slot}
+use Rattle.span_slots.specs.Table.{Table, with_value, find, with_entry, without_entry, table_removed, table_inserted, next_id, next_slot}
 use Rattle.span_slots.specs.inside.Rows.{entries_from, AreGoodRows}
-use Rattle.span_slots.proofs.Rows.{row_value, row_none, value_at_rows, without_rows, with_rows, push_rows, written_rows}
+use Rattle.span_slots.proofs.Rows.{row_value, row_none, found_in_rows, without_rows, with_rows, push_rows, written_rows}
 
 pair_same : {A B : Type 0} (a : A) (b : B) (c : A) (d : B) → a ≡ c → b ≡ d → ◌≡◌ {A = A × B} (a, b) (c, d)
 pair_same a b c d e f = cc
@@ -38,15 +38,15 @@ module _ {T : Type 0} where
   pub row_at : (cells : List (Cell T)) (k : ℕ) (cell : Cell T) → k < length cells → cell ≡ get_or cells k cell → get_or (map row_of cells) k (0, None) ≡ (cell.given, cell.value)
   row_at cells k cell l e = get_or-map row_of cells k cell (0, None) l ∙ ap row_of (sym e)
 
-  pub value_at_cells : (last : ℕ) (cells : List (Cell T)) (id k : ℕ) (cell : Cell T) → IsId id → AreGoodRows last (map row_of cells) → length cells ≤ 16777216 → slot_of id ≡ k → k < length cells → cell ≡ get_or cells k cell → value_at (entries_from 0 (map row_of cells)) id ≡ cond (eqb cell.given (generation_of id + 1)) cell.value None
-  value_at_cells last cells id k cell i a n s l e =
+  pub found_in_cells : (last : ℕ) (cells : List (Cell T)) (id k : ℕ) (cell : Cell T) → IsId id → AreGoodRows last (map row_of cells) → length cells ≤ 16777216 → slot_of id ≡ k → k < length cells → cell ≡ get_or cells k cell → find (entries_from 0 (map row_of cells)) id ≡ cond (eqb cell.given (generation_of id + 1)) cell.value None
+  found_in_cells last cells id k cell i a n s l e =
       let r = row_at cells k cell l e in
-      let w = value_at_rows last (map row_of cells) 0 k id i a (simp length-map (omega arith)) (omega arith) in
+      let w = found_in_rows last (map row_of cells) 0 k id i a (simp length-map (omega arith)) (omega arith) in
       w ∙ ap (λ x. row_value x (generation_of id)) r
 
-  pub value_past_cells : (last : ℕ) (cells : List (Cell T)) (id : ℕ) → IsId id → AreGoodRows last (map row_of cells) → length cells ≤ 16777216 → length cells ≤ slot_of id → value_at (entries_from 0 (map row_of cells)) id ≡ None
+  pub value_past_cells : (last : ℕ) (cells : List (Cell T)) (id : ℕ) → IsId id → AreGoodRows last (map row_of cells) → length cells ≤ 16777216 → length cells ≤ slot_of id → find (entries_from 0 (map row_of cells)) id ≡ None
   value_past_cells last cells id i a n p =
-      let w = value_at_rows last (map row_of cells) 0 (slot_of id) id i a (simp length-map (omega arith)) (omega arith) in
+      let w = found_in_rows last (map row_of cells) 0 (slot_of id) id i a (simp length-map (omega arith)) (omega arith) in
       w ∙ (ap (λ x. row_value x (generation_of id)) (get_or_past (map row_of cells) (slot_of id) (0, None) (simp length-map p)) ∙ row_none 0 (generation_of id))
 
   -- the table that these parts stand for
@@ -79,7 +79,7 @@ module _ {T : Type 0} where
       ap (λ x. entries_from 0 x) (map-set row_of cells k new) ∙ (ap (λ x. entries_from 0 (set (map row_of cells) k x)) put ∙ (sym w ∙ ap (λ x. without_entry (entries_from 0 (map row_of cells)) x) q))
 
   -- taking a value out, where its slot may be given again
-  pub taken_free : (slots last id k : ℕ) (cells : List (Cell T)) (freed freed2 : List ℕ) (cell new : Cell T) (v : T) → IsCellOf cells id k cell v → new.given ≡ cell.given → new.value ≡ None → IsSome (value_at (entries_from 0 (map row_of cells)) id) → cell.given ≤ last → freed2 ≡ freed ++ k ∷ [] → table_of slots last (set cells k new) freed2 ≡ table_removed (table_of slots last cells freed) id
+  pub taken_free : (slots last id k : ℕ) (cells : List (Cell T)) (freed freed2 : List ℕ) (cell new : Cell T) (v : T) → IsCellOf cells id k cell v → new.given ≡ cell.given → new.value ≡ None → IsSome (find (entries_from 0 (map row_of cells)) id) → cell.given ≤ last → freed2 ≡ freed ++ k ∷ [] → table_of slots last (set cells k new) freed2 ≡ table_removed (table_of slots last cells freed) id
   taken_free slots last id k cells freed freed2 cell new v h same none there le p =
       let a = entries_taken cells id k cell new v h same none in
       let b = given_kept cells k cell new h.is same in
@@ -88,7 +88,7 @@ module _ {T : Type 0} where
       rw (there, a, b, p, reverse-append, h.slot, at, test) refl
 
   -- and where it gave its last id
-  pub taken_retired : (slots last id k : ℕ) (cells : List (Cell T)) (freed : List ℕ) (cell new : Cell T) (v : T) → IsCellOf cells id k cell v → new.given ≡ cell.given → new.value ≡ None → IsSome (value_at (entries_from 0 (map row_of cells)) id) → last < cell.given → table_of slots last (set cells k new) freed ≡ table_removed (table_of slots last cells freed) id
+  pub taken_retired : (slots last id k : ℕ) (cells : List (Cell T)) (freed : List ℕ) (cell new : Cell T) (v : T) → IsCellOf cells id k cell v → new.given ≡ cell.given → new.value ≡ None → IsSome (find (entries_from 0 (map row_of cells)) id) → last < cell.given → table_of slots last (set cells k new) freed ≡ table_removed (table_of slots last cells freed) id
   taken_retired slots last id k cells freed cell new v h same none there lt =
       let a = entries_taken cells id k cell new v h same none in
       let b = given_kept cells k cell new h.is same in
@@ -100,15 +100,15 @@ module _ {T : Type 0} where
   pub record Found (cells : List (Cell T)) (id k : ℕ) : Type 0 where
     pub within : k < length cells
     pub given : (cell : Cell T) → cell ≡ get_or cells k cell → cell.given ≡ generation_of id + 1
-    pub value : (cell : Cell T) → cell ≡ get_or cells k cell → value_at (entries_from 0 (map row_of cells)) id ≡ cell.value
+    pub value : (cell : Cell T) → cell ≡ get_or cells k cell → find (entries_from 0 (map row_of cells)) id ≡ cell.value
 
-  pub found_cell : (last : ℕ) (cells : List (Cell T)) (id k : ℕ) → IsId id → AreGoodRows last (map row_of cells) → length cells ≤ 16777216 → slot_of id ≡ k → IsSome (value_at (entries_from 0 (map row_of cells)) id) → Found cells id k
+  pub found_cell : (last : ℕ) (cells : List (Cell T)) (id k : ℕ) → IsId id → AreGoodRows last (map row_of cells) → length cells ≤ 16777216 → slot_of id ≡ k → IsSome (find (entries_from 0 (map row_of cells)) id) → Found cells id k
   found_cell last cells id k i a n s there =
-      let within : k < length cells = elim (cases_lt k (length cells)) [ inl t ↦ t | inr t ↦ absurd (not_there (value_at (entries_from 0 (map row_of cells)) id) there (value_past_cells last cells id i a n (omega arith))) ] in
+      let within : k < length cells = elim (cases_lt k (length cells)) [ inl t ↦ t | inr t ↦ absurd (not_there (find (entries_from 0 (map row_of cells)) id) there (value_past_cells last cells id i a n (omega arith))) ] in
       record {
         within = within;
-        given = λ cell e. (elim (eqb_tells cell.given (generation_of id + 1)) [ inl t ↦ t.1 | inr t ↦ absurd (not_there (value_at (entries_from 0 (map row_of cells)) id) there (value_at_cells last cells id k cell i a n s within e ∙ cond_false (eqb cell.given (generation_of id + 1)) cell.value None t.0)) ]);
-        value = λ cell e. (elim (eqb_tells cell.given (generation_of id + 1)) [ inl t ↦ value_at_cells last cells id k cell i a n s within e ∙ cond_true (eqb cell.given (generation_of id + 1)) cell.value None t.0 | inr t ↦ absurd (not_there (value_at (entries_from 0 (map row_of cells)) id) there (value_at_cells last cells id k cell i a n s within e ∙ cond_false (eqb cell.given (generation_of id + 1)) cell.value None t.0)) ]);
+        given = λ cell e. (elim (eqb_tells cell.given (generation_of id + 1)) [ inl t ↦ t.1 | inr t ↦ absurd (not_there (find (entries_from 0 (map row_of cells)) id) there (found_in_cells last cells id k cell i a n s within e ∙ cond_false (eqb cell.given (generation_of id + 1)) cell.value None t.0)) ]);
+        value = λ cell e. (elim (eqb_tells cell.given (generation_of id + 1)) [ inl t ↦ found_in_cells last cells id k cell i a n s within e ∙ cond_true (eqb cell.given (generation_of id + 1)) cell.value None t.0 | inr t ↦ absurd (not_there (find (entries_from 0 (map row_of cells)) id) there (found_in_cells last cells id k cell i a n s within e ∙ cond_false (eqb cell.given (generation_of id + 1)) cell.value None t.0)) ]);
       }
 
   next_freed : (slots last k : ℕ) (cells : List (Cell T)) (freed rest : List ℕ) → freed ≡ rest ++ k ∷ [] → reverse freed ≡ k ∷ reverse rest
@@ -175,11 +175,11 @@ module _ {T : Type 0} where
   cond_same false o h = refl
 
   -- the id that a slot gives next is not there
-  pub vacant_reused : (last k : ℕ) (cells : List (Cell T)) (cell : Cell T) → AreGoodRows last (map row_of cells) → length cells ≤ 16777216 → k < length cells → cell ≡ get_or cells k cell → cell.value ≡ None → cell.given ≤ 4294967295 → value_at (entries_from 0 (map row_of cells)) (id_of k cell.given) ≡ None
+  pub vacant_reused : (last k : ℕ) (cells : List (Cell T)) (cell : Cell T) → AreGoodRows last (map row_of cells) → length cells ≤ 16777216 → k < length cells → cell ≡ get_or cells k cell → cell.value ≡ None → cell.given ≤ 4294967295 → find (entries_from 0 (map row_of cells)) (id_of k cell.given) ≡ None
   vacant_reused last k cells cell a n l e none low =
-      value_at_cells last cells (id_of k cell.given) k cell (is_id k cell.given (omega arith) low) a n (slot_of_id k cell.given (omega arith)) l e
+      found_in_cells last cells (id_of k cell.given) k cell (is_id k cell.given (omega arith) low) a n (slot_of_id k cell.given (omega arith)) l e
       ∙ cond_same (eqb cell.given (generation_of (id_of k cell.given) + 1)) cell.value none
 
-  pub vacant_fresh : (last k : ℕ) (cells : List (Cell T)) → AreGoodRows last (map row_of cells) → length cells < 16777216 → k ≡ length cells → value_at (entries_from 0 (map row_of cells)) (id_of k 0) ≡ None
+  pub vacant_fresh : (last k : ℕ) (cells : List (Cell T)) → AreGoodRows last (map row_of cells) → length cells < 16777216 → k ≡ length cells → find (entries_from 0 (map row_of cells)) (id_of k 0) ≡ None
   vacant_fresh last k cells a n e =
       value_past_cells last cells (id_of k 0) (is_id k 0 (omega arith) (omega arith)) a (omega arith) (let q = slot_of_id k 0 (omega arith) in omega arith)

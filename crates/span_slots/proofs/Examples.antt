@@ -1,6 +1,6 @@
 -- Worked cases, computed from the definitions alone.
 use Rattle.std.proofs.Common.{◌≡◌, ℕ, true, false, List, [], ◌∷◌, Some, None, refl}
-use Rattle.span_slots.specs.Table.{Table, value_at, id_from, ids_from, next_id, free_count, is_issued, is_occupied, is_retired, is_free}
+use Rattle.span_slots.specs.Table.{Table, find, id_from, ids_from, next_id, free_count, is_issued, is_occupied, is_retired, is_free}
 use Rattle.span_slots.specs.Change.{Change, Insert, Remove, Write, after_all}
 
 -- a table with this many slots and this last generation, after these calls
@@ -24,7 +24,7 @@ two_full_refuses = refl
 two_retired_entries : two_retired.entries ≡ (2, 8) ∷ []
 two_retired_entries = refl
 
-two_retired_finds_nothing : value_at two_retired.entries 1 ≡ None
+two_retired_finds_nothing : find two_retired.entries 1 ≡ None
 two_retired_finds_nothing = refl
 
 two_retired_refuses : next_id two_retired ≡ None

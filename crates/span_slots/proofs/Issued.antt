@@ -5,10 +5,10 @@ use Rattle.std.proofs.Math.ListN.{get_or-append}
 use Rattle.std.proofs.lemmas.Bool.{cases_Bool, cases_lt, lt-ltb, le-ltb}
 use Rattle.std.proofs.lemmas.Bool.Decides.{eqb_tells}
 use Rattle.span_id.specs.Id.{id_of, slot_of, generation_of, IsId}
-use Rattle.span_slots.specs.Table.{Table, value_at, with_entry, without_entry, with_value, IsIssued, next_slot, next_slot_of, id_at, issue, table_inserted, table_removed}
+use Rattle.span_slots.specs.Table.{Table, find, with_entry, without_entry, with_value, IsIssued, next_slot, next_slot_of, id_at, issue, table_inserted, table_removed}
 use Rattle.span_slots.specs.Change.{Change, Insert, Remove, Write, after, after_all}
 use Rattle.span_slots.proofs.Ids.{slot_of_id, generation_of_id, id_again}
-use Rattle.span_slots.proofs.Entries.{value_at-with_entry_other, value_at-without_entry_none, value_at-without_entry_same, value_at-with_value_none}
+use Rattle.span_slots.proofs.Entries.{find-with_other, find-without_none, find-without_same, find-with_value_none}
 
 -- a slot that gave an id is one of those that were used
 pub used_since : (given : List ℕ) (k g : ℕ) → g < get_or given k 0 → k < length given
@@ -102,7 +102,7 @@ module _ {T : Type 0} where
   AreIssued-with_value given (e ∷ es) id v a = (a.0, AreIssued-with_value given es id v a.1)
 
   -- an id in the map was issued
-  pub issued_since : (given : List ℕ) (es : List (ℕ × T)) (id : ℕ) → AreIssued given es → IsSome (value_at es id) → generation_of id < get_or given (slot_of id) 0
+  pub issued_since : (given : List ℕ) (es : List (ℕ × T)) (id : ℕ) → AreIssued given es → IsSome (find es id) → generation_of id < get_or given (slot_of id) 0
   issued_since given [] id a there = cc
   issued_since given (e ∷ es) id a there =
       elim (eqb_tells e.0 id) [
@@ -150,12 +150,12 @@ module _ {T : Type 0} where
       }
 
   IsKept-removed : (t : Table T) (id : ℕ) → IsKept t → IsKept (table_removed t id)
-  IsKept-removed t id k = go (value_at t.entries id) refl
+  IsKept-removed t id k = go (find t.entries id) refl
     where
-      go : (o : Option T) → value_at t.entries id ≡ o → IsKept (table_removed t id)
+      go : (o : Option T) → find t.entries id ≡ o → IsKept (table_removed t id)
       go None e = rw e k
       go (Some v) e =
-          let there : IsSome (value_at t.entries id) = rw e cc in
+          let there : IsSome (find t.entries id) = rw e cc in
           let used = used_since t.given (slot_of id) (generation_of id) (issued_since t.given t.entries id k.issued there) in
           rw e (record {
             slots_high = k.slots_high;
@@ -185,9 +185,9 @@ module _ {T : Type 0} where
       go : (o : Option ℕ) → next_slot t ≡ o → get_or t.given j 0 ≤ get_or (after t (Insert v)).given j 0
       go None e = rw e (omega arith)
       go (Some s) e = rw e (issue_grows t.given s j (next_slot_low t s k e).1)
-  given_grows t (Remove id) j k = go (value_at t.entries id) refl
+  given_grows t (Remove id) j k = go (find t.entries id) refl
     where
-      go : (o : Option T) → value_at t.entries id ≡ o → get_or t.given j 0 ≤ get_or (table_removed t id).given j 0
+      go : (o : Option T) → find t.entries id ≡ o → get_or t.given j 0 ≤ get_or (table_removed t id).given j 0
       go None e = rw e (omega arith)
       go (Some v) e = rw e (omega arith)
   given_grows t (Write id v) j k = omega arith
@@ -196,21 +196,21 @@ module _ {T : Type 0} where
   stays_issued t change id k i = let more = given_grows t change (slot_of id) k in omega arith
 
   -- an id that was issued and is not in the map stays out of it
-  stays_absent : (t : Table T) (change : Change T) (id : ℕ) → IsKept t → IsIssued t id → value_at t.entries id ≡ None → value_at (after t change).entries id ≡ None
+  stays_absent : (t : Table T) (change : Change T) (id : ℕ) → IsKept t → IsIssued t id → find t.entries id ≡ None → find (after t change).entries id ≡ None
   stays_absent t (Insert v) id k i none = go (next_slot t) refl
     where
-      go : (o : Option ℕ) → next_slot t ≡ o → value_at (after t (Insert v)).entries id ≡ None
+      go : (o : Option ℕ) → next_slot t ≡ o → find (after t (Insert v)).entries id ≡ None
       go None e = rw e none
       go (Some s) e =
           let low = next_slot_low t s k e in
-          let new : id_at t s ≢ id = λ q. not_issued t s (let h = k.slots_high in omega (arith, low.0)) (subst (λ x. IsIssued t x) (sym q) i) in
-          rw e (value_at-with_entry_other t.entries (id_at t s) id v new ∙ none)
-  stays_absent t (Remove j) id k i none = go (value_at t.entries j) refl
+          let new : id ≢ id_at t s = λ q. not_issued t s (let h = k.slots_high in omega (arith, low.0)) (subst (λ x. IsIssued t x) q i) in
+          rw e (find-with_other t.entries (id_at t s) id v new ∙ none)
+  stays_absent t (Remove j) id k i none = go (find t.entries j) refl
     where
-      go : (o : Option T) → value_at t.entries j ≡ o → value_at (table_removed t j).entries id ≡ None
+      go : (o : Option T) → find t.entries j ≡ o → find (table_removed t j).entries id ≡ None
       go None e = rw e none
-      go (Some v) e = rw e (value_at-without_entry_none t.entries j id none)
-  stays_absent t (Write j v) id k i none = value_at-with_value_none t.entries j id v none
+      go (Some v) e = rw e (find-without_none t.entries j id none)
+  stays_absent t (Write j v) id k i none = find-with_value_none t.entries j id v none
 
   -- the limits never change
   slots-after : (t : Table T) (change : Change T) → (after t change).slots ≡ t.slots
@@ -219,9 +219,9 @@ module _ {T : Type 0} where
       go : (o : Option ℕ) → next_slot t ≡ o → (after t (Insert v)).slots ≡ t.slots
       go None e = rw e refl
       go (Some s) e = rw e refl
-  slots-after t (Remove id) = go (value_at t.entries id) refl
+  slots-after t (Remove id) = go (find t.entries id) refl
     where
-      go : (o : Option T) → value_at t.entries id ≡ o → (table_removed t id).slots ≡ t.slots
+      go : (o : Option T) → find t.entries id ≡ o → (table_removed t id).slots ≡ t.slots
       go None e = rw e refl
       go (Some v) e = rw e refl
   slots-after t (Write id v) = refl
@@ -232,9 +232,9 @@ module _ {T : Type 0} where
       go : (o : Option ℕ) → next_slot t ≡ o → (after t (Insert v)).last_generation ≡ t.last_generation
       go None e = rw e refl
       go (Some s) e = rw e refl
-  last-after t (Remove id) = go (value_at t.entries id) refl
+  last-after t (Remove id) = go (find t.entries id) refl
     where
-      go : (o : Option T) → value_at t.entries id ≡ o → (table_removed t id).last_generation ≡ t.last_generation
+      go : (o : Option T) → find t.entries id ≡ o → (table_removed t id).last_generation ≡ t.last_generation
       go None e = rw e refl
       go (Some v) e = rw e refl
   last-after t (Write id v) = refl
@@ -252,20 +252,20 @@ module _ {T : Type 0} where
   issued_for_good t (change ∷ changes) id k i =
       issued_for_good (after t change) changes id (IsKept-after t change k) (stays_issued t change id k i)
 
-  pub absent_for_good : (t : Table T) (changes : List (Change T)) (id : ℕ) → IsKept t → IsIssued t id → value_at t.entries id ≡ None → value_at (after_all t changes).entries id ≡ None
+  pub absent_for_good : (t : Table T) (changes : List (Change T)) (id : ℕ) → IsKept t → IsIssued t id → find t.entries id ≡ None → find (after_all t changes).entries id ≡ None
   absent_for_good t [] id k i none = none
   absent_for_good t (change ∷ changes) id k i none =
       absent_for_good (after t change) changes id (IsKept-after t change k) (stays_issued t change id k i) (stays_absent t change id k i none)
 
   -- a removal takes the id out of the map
-  pub absent-removed : (t : Table T) (id : ℕ) → value_at (table_removed t id).entries id ≡ None
-  absent-removed t id = go (value_at t.entries id) refl
+  pub absent-removed : (t : Table T) (id : ℕ) → find (table_removed t id).entries id ≡ None
+  absent-removed t id = go (find t.entries id) refl
     where
-      go : (o : Option T) → value_at t.entries id ≡ o → value_at (table_removed t id).entries id ≡ None
+      go : (o : Option T) → find t.entries id ≡ o → find (table_removed t id).entries id ≡ None
       go None e = rw e e
-      go (Some v) e = rw e (value_at-without_entry_same t.entries id)
+      go (Some v) e = rw e (find-without_same t.entries id)
 
-  pub removed_for_good : (t : Table T) (changes : List (Change T)) (id : ℕ) → IsKept t → IsSome (value_at t.entries id) → value_at (after_all (after t (Remove id)) changes).entries id ≡ None
+  pub removed_for_good : (t : Table T) (changes : List (Change T)) (id : ℕ) → IsKept t → IsSome (find t.entries id) → find (after_all (after t (Remove id)) changes).entries id ≡ None
   removed_for_good t changes id k there =
       absent_for_good (table_removed t id) changes id (IsKept-removed t id k) (stays_issued t (Remove id) id k (issued_since t.given t.entries id k.issued there)) (absent-removed t id)
 

@@ -4,7 +4,7 @@ use Rattle.std.proofs.lemmas.List.{length-map}
 use Rattle.span_id.specs.Id.{slot_of, generation_of, IsId}
 use Rattle.span_slots.specs.declared.cells.Cell.{Cell}
 use Rattle.span_slots.specs.inside.Cells.{row_of}
-use Rattle.span_slots.specs.Table.{value_at}
+use Rattle.span_slots.specs.Table.{find}
 use Rattle.span_slots.specs.inside.Rows.{entries_from, IsSound}
 use Rattle.span_slots.proofs.CellLemmas.{IsCellOf, found_cell, row_at}
 use Rattle.span_slots.proofs.Sound.{free_row}
@@ -16,11 +16,11 @@ module _ {T : Type 0} where
     pub within : k < length cells
     pub row_within : k < length (map row_of cells)
     pub given : (cell : Cell T) → cell ≡ get_or cells k cell → cell.given ≡ generation_of id + 1
-    pub value : (cell : Cell T) → cell ≡ get_or cells k cell → value_at (entries_from 0 (map row_of cells)) id ≡ cell.value
+    pub value : (cell : Cell T) → cell ≡ get_or cells k cell → find (entries_from 0 (map row_of cells)) id ≡ cell.value
     pub row : (cell : Cell T) (v : T) → cell ≡ get_or cells k cell → cell.value ≡ Some v → get_or (map row_of cells) k (0, None) ≡ (cell.given, Some v)
     pub cell_of : (cell : Cell T) (v : T) → cell ≡ get_or cells k cell → cell.value ≡ Some v → IsCellOf cells id k cell v
 
-  pub found : (slots last len rc rf id k : ℕ) (cells : List (Cell T)) (freed : List ℕ) → IsSound slots last len rc rf (map row_of cells) freed → IsId id → k ≡ slot_of id → IsSome (value_at (entries_from 0 (map row_of cells)) id) → IsFound cells id k
+  pub found : (slots last len rc rf id k : ℕ) (cells : List (Cell T)) (freed : List ℕ) → IsSound slots last len rc rf (map row_of cells) freed → IsId id → k ≡ slot_of id → IsSome (find (entries_from 0 (map row_of cells)) id) → IsFound cells id k
   found slots last len rc rf id k cells freed s layout e there =
       let lm = length-map cells row_of in
       let n : length cells ≤ 16777216 = omega (arith, s.used, s.slots_high) in

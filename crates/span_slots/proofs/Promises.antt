@@ -6,11 +6,11 @@ use Rattle.std.proofs.lemmas.List.{get_or_past}
 use Rattle.std.proofs.lemmas.Bool.{eq-eqb, ne_eqb, cases_Bool, cases_lt, lt-ltb, le-ltb, le-leb, lt-leb, ltb-true, ltb-false, not-false, true≢false}
 use Rattle.std.proofs.lemmas.Bool.Decides.{eqb_tells}
 use Rattle.span_id.specs.Id.{id_of, slot_of, generation_of, IsId}
-use Rattle.span_slots.specs.Table.{Table, value_at, IsIssued, IsUsed, IsFull, is_free, is_occupied, is_retired, next_slot, next_slot_of, next_id, id_at, table_removed, freed_with}
+use Rattle.span_slots.specs.Table.{Table, find, IsIssued, IsUsed, IsFull, is_free, is_occupied, is_retired, next_slot, next_slot_of, next_id, id_at, table_removed, freed_with}
 use Rattle.span_slots.specs.Change.{Change, Insert, after, after_all}
 use Rattle.span_slots.specs.inside.Rows.{times_in}
 use Rattle.span_slots.proofs.Ids.{slot_of_id, generation_of_id}
-use Rattle.span_slots.proofs.Entries.{value_at-with_entry_same, value_at-with_entry_other, value_at-without_entry_other}
+use Rattle.span_slots.proofs.Entries.{find-with_same, find-with_other, find-without_other}
 use Rattle.span_slots.proofs.Issued.{IsKept, issued_since, used_since, next_slot_low, not_issued, issued-inserted, issued_for_good, last-after_all}
 use Rattle.span_slots.proofs.Described.{IsTable, AreNewest, AreAscending}
 
@@ -148,9 +148,9 @@ module _ {T : Type 0} where
           )
 
   given-removed : (t : Table T) (id : ℕ) → (table_removed t id).given ≡ t.given
-  given-removed t id = go (value_at t.entries id) refl
+  given-removed t id = go (find t.entries id) refl
     where
-      go : (o : Option T) → value_at t.entries id ≡ o → (table_removed t id).given ≡ t.given
+      go : (o : Option T) → find t.entries id ≡ o → (table_removed t id).given ≡ t.given
       go None e = rw e refl
       go (Some v) e = rw e refl
 
@@ -166,7 +166,7 @@ module _ {T : Type 0} where
   issued_generation t id h i = let m = h.gave_no_more (slot_of id) in omega arith
 
   -- the map
-  newest_since : (given : List ℕ) (es : List (ℕ × T)) (id : ℕ) → AreNewest given es → IsSome (value_at es id) → IsId id × (get_or given (slot_of id) 0 ≡ generation_of id + 1)
+  newest_since : (given : List ℕ) (es : List (ℕ × T)) (id : ℕ) → AreNewest given es → IsSome (find es id) → IsId id × (get_or given (slot_of id) 0 ≡ generation_of id + 1)
   newest_since given [] id a there = cc
   newest_since given (e ∷ es) id a there =
       elim (eqb_tells e.0 id) [
@@ -174,10 +174,10 @@ module _ {T : Type 0} where
         | inr t ↦ newest_since given es id a.1 (rw t.0 at there)
       ]
 
-  pub newest : (t : Table T) (id : ℕ) → IsTable t → IsSome (value_at t.entries id) → IsId id × (get_or t.given (slot_of id) 0 ≡ generation_of id + 1)
+  pub newest : (t : Table T) (id : ℕ) → IsTable t → IsSome (find t.entries id) → IsId id × (get_or t.given (slot_of id) 0 ≡ generation_of id + 1)
   newest t id h there = newest_since t.given t.entries id h.newest there
 
-  pub next_not_issued : (t : Table T) (id : ℕ) → IsTable t → IsSome (value_at t.entries id) → IsIssued t (id_of (slot_of id) (generation_of id + 1)) → ⊥
+  pub next_not_issued : (t : Table T) (id : ℕ) → IsTable t → IsSome (find t.entries id) → IsIssued t (id_of (slot_of id) (generation_of id + 1)) → ⊥
   next_not_issued t id h there i =
       let n = newest t id h there in
       let u = used_since t.given (slot_of id) (generation_of id) (omega (arith, n.1)) in
@@ -187,7 +187,7 @@ module _ {T : Type 0} where
       let q : generation_of id + 1 < get_or t.given (slot_of id) 0 = rw (slot_of_id (slot_of id) (generation_of id + 1) low, generation_of_id (slot_of id) (generation_of id + 1) low) at i in
       omega (arith, n.1)
 
-  above_since : (es : List (ℕ × T)) (low id : ℕ) → AreAscending low es → IsSome (value_at es id) → low ≤ slot_of id
+  above_since : (es : List (ℕ × T)) (low id : ℕ) → AreAscending low es → IsSome (find es id) → low ≤ slot_of id
   above_since [] low id a there = cc
   above_since (e ∷ es) low id a there =
       elim (eqb_tells e.0 id) [
@@ -195,7 +195,7 @@ module _ {T : Type 0} where
         | inr t ↦ (let r = above_since es (slot_of e.0 + 1) id a.1 (rw t.0 at there) in omega (arith, a.0))
       ]
 
-  pub one_slot : (es : List (ℕ × T)) (low id other : ℕ) → AreAscending low es → IsSome (value_at es id) → IsSome (value_at es other) → slot_of id ≡ slot_of other → id ≡ other
+  pub one_slot : (es : List (ℕ × T)) (low id other : ℕ) → AreAscending low es → IsSome (find es id) → IsSome (find es other) → slot_of id ≡ slot_of other → id ≡ other
   one_slot [] low id other a there too same = cc
   one_slot (e ∷ es) low id other a there too same =
       elim (eqb_tells e.0 id) [
@@ -223,7 +223,7 @@ module _ {T : Type 0} where
   above_at (e ∷ es) low zero d a l = a.0
   above_at (e ∷ es) low (suc k) d a l = let r = above_at es (slot_of e.0 + 1) k d a.1 (omega arith) in omega (arith, a.0)
 
-  pub found : (es : List (ℕ × T)) (low : ℕ) → AreAscending low es → All (λ e. value_at es e.0 ≡ Some e.1) es
+  pub found : (es : List (ℕ × T)) (low : ℕ) → AreAscending low es → All (λ e. find es e.0 ≡ Some e.1) es
   found [] low a k d l = absurd (omega arith)
   found (e ∷ es) low a zero d l = rw (eq-eqb e.0 e.0 refl) refl
   found (e ∷ es) low a (suc k) d l =
@@ -248,13 +248,13 @@ module _ {T : Type 0} where
   pub freed_apart : (t : Table T) → IsTable t → AllPairs (λ slot other. slot ≢ other) t.freed
   freed_apart t h i j d l m = apart_once t.freed h.freed_once i j d l m
 
-  next-removed : (t : Table T) (id : ℕ) (v : T) → value_at t.entries id ≡ Some v → next_id (table_removed t id) ≡ next_id (record t { freed = freed_with t (slot_of id) })
+  next-removed : (t : Table T) (id : ℕ) (v : T) → find t.entries id ≡ Some v → next_id (table_removed t id) ≡ next_id (record t { freed = freed_with t.last_generation t.given t.freed id })
   next-removed t id v e = rw e refl
 
-  pub freed_last : (t : Table T) (id : ℕ) → IsTable t → IsSome (value_at t.entries id) → generation_of id < t.last_generation → next_id (table_removed t id) ≡ Some (id_of (slot_of id) (generation_of id + 1))
-  freed_last t id h there l = go (value_at t.entries id) refl
+  pub freed_last : (t : Table T) (id : ℕ) → IsTable t → IsSome (find t.entries id) → generation_of id < t.last_generation → next_id (table_removed t id) ≡ Some (id_of (slot_of id) (generation_of id + 1))
+  freed_last t id h there l = go (find t.entries id) refl
     where
-      go : (o : Option T) → value_at t.entries id ≡ o → next_id (table_removed t id) ≡ Some (id_of (slot_of id) (generation_of id + 1))
+      go : (o : Option T) → find t.entries id ≡ o → next_id (table_removed t id) ≡ Some (id_of (slot_of id) (generation_of id + 1))
       go None e = absurd (let q = rw e at there in cc)
       go (Some v) e =
           let n = newest t id h there in
@@ -285,10 +285,10 @@ module _ {T : Type 0} where
       let same : s ≡ slot = sym (slot_of_id s (get_or t.given s 0) low) ∙ q in
       absurd (true≢false (sym r ∙ (ap (is_retired t) (sym same) ∙ next_is_unretired t s h e)))))
 
-  pub retired : (t : Table T) (id : ℕ) → IsTable t → IsSome (value_at t.entries id) → generation_of id ≡ t.last_generation → next_id (table_removed t id) ≡ next_id t
-  retired t id h there l = go (value_at t.entries id) refl
+  pub retired : (t : Table T) (id : ℕ) → IsTable t → IsSome (find t.entries id) → generation_of id ≡ t.last_generation → next_id (table_removed t id) ≡ next_id t
+  retired t id h there l = go (find t.entries id) refl
     where
-      go : (o : Option T) → value_at t.entries id ≡ o → next_id (table_removed t id) ≡ next_id t
+      go : (o : Option T) → find t.entries id ≡ o → next_id (table_removed t id) ≡ next_id t
       go None e = absurd (let q = rw e at there in cc)
       go (Some v) e =
           let n = newest t id h there in
@@ -320,35 +320,35 @@ module _ {T : Type 0} where
       )))
 
   -- what each call does to the map
-  pub next_absent : (t : Table T) → IsKept t → IfSome (next_id t) (λ id. value_at t.entries id ≡ None)
-  next_absent t k = if_next t (λ id. value_at t.entries id ≡ None) (λ s e. absent_at t s k (low_slot t s k e))
+  pub next_absent : (t : Table T) → IsKept t → IfSome (next_id t) (λ id. find t.entries id ≡ None)
+  next_absent t k = if_next t (λ id. find t.entries id ≡ None) (λ s e. absent_at t s k (low_slot t s k e))
     where
-      absent_at : (t : Table T) (s : ℕ) → IsKept t → s < 16777216 → value_at t.entries (id_at t s) ≡ None
-      absent_at t s k l = go (value_at t.entries (id_at t s)) refl
+      absent_at : (t : Table T) (s : ℕ) → IsKept t → s < 16777216 → find t.entries (id_at t s) ≡ None
+      absent_at t s k l = go (find t.entries (id_at t s)) refl
         where
-          go : (o : Option T) → value_at t.entries (id_at t s) ≡ o → value_at t.entries (id_at t s) ≡ None
+          go : (o : Option T) → find t.entries (id_at t s) ≡ o → find t.entries (id_at t s) ≡ None
           go None e = e
           go (Some v) e = absurd (not_issued t s l (issued_since t.given t.entries (id_at t s) k.issued (rw e cc)))
 
-  pub added : (t : Table T) (v : T) → IsKept t → IfSome (next_id t) (λ id. value_at (after t (Insert v)).entries id ≡ Some v)
+  pub added : (t : Table T) (v : T) → IsKept t → IfSome (next_id t) (λ id. find (after t (Insert v)).entries id ≡ Some v)
   added t v k = go (next_slot t) refl
     where
-      go : (o : Option ℕ) → next_slot t ≡ o → IfSome (next_id t) (λ id. value_at (after t (Insert v)).entries id ≡ Some v)
+      go : (o : Option ℕ) → next_slot t ≡ o → IfSome (next_id t) (λ id. find (after t (Insert v)).entries id ≡ Some v)
       go None e = rw e (search rules)
       go (Some s) e =
-          let none : value_at t.entries (id_at t s) ≡ None = subst (λ o. IfSome o (λ id. value_at t.entries id ≡ None)) (some_next t s e) (next_absent t k) in
-          rw e (value_at-with_entry_same t.entries (id_at t s) v none)
+          let none : find t.entries (id_at t s) ≡ None = subst (λ o. IfSome o (λ id. find t.entries id ≡ None)) (some_next t s e) (next_absent t k) in
+          rw e (find-with_same t.entries (id_at t s) v none)
 
-  pub others-inserted : (t : Table T) (v : T) (other : ℕ) → next_id t ≢ Some other → value_at (after t (Insert v)).entries other ≡ value_at t.entries other
+  pub others-inserted : (t : Table T) (v : T) (other : ℕ) → next_id t ≢ Some other → find (after t (Insert v)).entries other ≡ find t.entries other
   others-inserted t v other ne = go (next_slot t) refl
     where
-      go : (o : Option ℕ) → next_slot t ≡ o → value_at (after t (Insert v)).entries other ≡ value_at t.entries other
+      go : (o : Option ℕ) → next_slot t ≡ o → find (after t (Insert v)).entries other ≡ find t.entries other
       go None e = rw e refl
-      go (Some s) e = rw e (value_at-with_entry_other t.entries (id_at t s) other v (λ q. ne (some_next t s e ∙ ap (λ x. Some x) q)))
+      go (Some s) e = rw e (find-with_other t.entries (id_at t s) other v (λ q. ne (some_next t s e ∙ ap (λ x. Some x) (sym q))))
 
-  pub others-removed : (t : Table T) (id other : ℕ) → other ≢ id → value_at (table_removed t id).entries other ≡ value_at t.entries other
-  others-removed t id other ne = go (value_at t.entries id) refl
+  pub others-removed : (t : Table T) (id other : ℕ) → other ≢ id → find (table_removed t id).entries other ≡ find t.entries other
+  others-removed t id other ne = go (find t.entries id) refl
     where
-      go : (o : Option T) → value_at t.entries id ≡ o → value_at (table_removed t id).entries other ≡ value_at t.entries other
+      go : (o : Option T) → find t.entries id ≡ o → find (table_removed t id).entries other ≡ find t.entries other
       go None e = rw e refl
-      go (Some v) e = rw e (value_at-without_entry_other t.entries id other (λ q. ne (sym q)))
+      go (Some v) e = rw e (find-without_other t.entries id other ne)

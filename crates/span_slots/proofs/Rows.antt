@@ -3,7 +3,7 @@ use Rattle.std.proofs.Common.{◌≡◌, ◌≢◌, ℕ, zero, suc, ◌+◌, ◌
 use Rattle.std.proofs.lemmas.Bool.Decides.{nat_tests, eqb_tells}
 use Rattle.std.proofs.lemmas.Bool.{eq-eqb, ne_eqb, cases_Bool}
 use Rattle.span_id.specs.Id.{id_of, slot_of, generation_of, IsId}
-use Rattle.span_slots.specs.Table.{value_at, with_entry, without_entry, with_value}
+use Rattle.span_slots.specs.Table.{find, with_entry, without_entry, with_value}
 use Rattle.span_slots.specs.inside.Rows.{entries_from, IsGoodRow, AreGoodRows, is_free, free_rows, free_at, times_in}
 use Rattle.span_slots.proofs.Ids.{slot_of_id, id_again, ids_differ}
 
@@ -27,28 +27,28 @@ module _ {T : Type 0} where
   pub row_none : (g generation : ℕ) → row_value (g, None) generation ≡ None
   row_none g generation = elim (cases_Bool (eqb g (generation + 1))) [ inl t ↦ rw t refl | inr t ↦ rw t refl ]
 
-  pub value_below : (rows : List (ℕ × Option T)) (b id : ℕ) → b + length rows ≤ 16777216 → slot_of id < b → value_at (entries_from b rows) id ≡ None
+  pub value_below : (rows : List (ℕ × Option T)) (b id : ℕ) → b + length rows ≤ 16777216 → slot_of id < b → find (entries_from b rows) id ≡ None
   value_below [] b id h l = refl
   value_below ((g, None) ∷ rest) b id h l = value_below rest (b + 1) id (omega arith) (omega arith)
   value_below ((g, Some v) ∷ rest) b id h l =
       rw (ids_differ b (g - 1) id (omega arith) (omega arith)) (value_below rest (b + 1) id (omega arith) (omega arith))
 
-  value_here : (es : List (ℕ × T)) (b g id : ℕ) (v : T) → IsId id → 0 < g → slot_of id ≡ b → value_at es id ≡ None → cond (eqb (id_of b (g - 1)) id) (Some v) (value_at es id) ≡ cond (eqb g (generation_of id + 1)) (Some v) None
+  value_here : (es : List (ℕ × T)) (b g id : ℕ) (v : T) → IsId id → 0 < g → slot_of id ≡ b → find es id ≡ None → cond (eqb (id_of b (g - 1)) id) (Some v) (find es id) ≡ cond (eqb g (generation_of id + 1)) (Some v) None
   value_here es b g id v i p e none =
       elim (eqb_tells g (generation_of id + 1)) [
         | inl t ↦ (let q : id_of b (g - 1) ≡ id = (let r = id_again id i in omega (arith, t.1)) in rw (t.0, eq-eqb (id_of b (g - 1)) id q) refl)
         | inr t ↦ (let q : id_of b (g - 1) ≢ id = λ u. t.1 (let r = id_again id i in omega arith) in rw (t.0, ne_eqb (id_of b (g - 1)) id q, none) refl)
       ]
 
-  pub value_at_rows : (last : ℕ) (rows : List (ℕ × Option T)) (b k id : ℕ) → IsId id → AreGoodRows last rows → b + length rows ≤ 16777216 → slot_of id ≡ b + k → value_at (entries_from b rows) id ≡ row_value (get_or rows k (0, None)) (generation_of id)
-  value_at_rows last [] b k id i a h e = rw (ne_eqb 0 (generation_of id + 1) (λ q. absurd (omega arith))) refl
-  value_at_rows last ((g, None) ∷ rest) b zero id i a h e =
+  pub found_in_rows : (last : ℕ) (rows : List (ℕ × Option T)) (b k id : ℕ) → IsId id → AreGoodRows last rows → b + length rows ≤ 16777216 → slot_of id ≡ b + k → find (entries_from b rows) id ≡ row_value (get_or rows k (0, None)) (generation_of id)
+  found_in_rows last [] b k id i a h e = rw (ne_eqb 0 (generation_of id + 1) (λ q. absurd (omega arith))) refl
+  found_in_rows last ((g, None) ∷ rest) b zero id i a h e =
       value_below rest (b + 1) id (omega arith) (omega arith) ∙ sym (row_none g (generation_of id))
-  value_at_rows last ((g, None) ∷ rest) b (suc k) id i a h e = value_at_rows last rest (b + 1) k id i a.1 (omega arith) (omega arith)
-  value_at_rows last ((g, Some v) ∷ rest) b zero id i a h e =
+  found_in_rows last ((g, None) ∷ rest) b (suc k) id i a h e = found_in_rows last rest (b + 1) k id i a.1 (omega arith) (omega arith)
+  found_in_rows last ((g, Some v) ∷ rest) b zero id i a h e =
       value_here (entries_from (b + 1) rest) b g id v i a.0.0 (omega arith) (value_below rest (b + 1) id (omega arith) (omega arith))
-  value_at_rows last ((g, Some v) ∷ rest) b (suc k) id i a h e =
-      rw (ids_differ b (g - 1) id (omega arith) (omega arith)) (value_at_rows last rest (b + 1) k id i a.1 (omega arith) (omega arith))
+  found_in_rows last ((g, Some v) ∷ rest) b (suc k) id i a h e =
+      rw (ids_differ b (g - 1) id (omega arith) (omega arith)) (found_in_rows last rest (b + 1) k id i a.1 (omega arith) (omega arith))
 
   without_below : (rows : List (ℕ × Option T)) (b s g : ℕ) → b + length rows ≤ 16777216 → s < b → without_entry (entries_from b rows) (id_of s g) ≡ entries_from b rows
   without_below [] b s g h l = refl

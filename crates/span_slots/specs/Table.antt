@@ -1,5 +1,5 @@
 -- What contracts see of a slot table.
-use Rattle.std.specs.Prelude.{ℕ, ◌+◌, ◌<◌, Bool, cond, not, ◌||◌, ◌==◌, nat_lt, nat_le, List, [], ◌∷◌, ◌++◌, length, map, filter, count_by, Option, Some, None, is_some, IsTrue, slice_index, slice_set, drop, refl}
+use Rattle.std.specs.Prelude.{◌≡◌, ℕ, ◌+◌, ◌<◌, Bool, cond, not, ◌||◌, ◌==◌, nat_lt, nat_le, List, [], ◌∷◌, ◌++◌, length, map, filter, count_by, Option, Some, None, is_some, IsTrue, slice_index, slice_set, drop, refl}
 use Rattle.std.specs.List.{list_any, range_with_len}
 use Rattle.std.specs.Option.{option_map}
 use Rattle.std.specs.Coded.{Coded, code_by, coded×, coded_ℕ, coded_list}
@@ -40,11 +40,25 @@ abbrev pub issue : List ℕ → ℕ → List ℕ
 issue given slot =
     cond (nat_lt slot (length given)) (slice_set given slot (slice_index given slot + 1)) (given ++ 1 ∷ [])
 
+-- The freed slots after an id is taken out: its slot is the one freed last, unless this was its last id.
+abbrev pub freed_with : ℕ → List ℕ → List ℕ → ℕ → List ℕ
+freed_with last_generation given freed id =
+    cond (nat_le (slice_index given (slot_of id)) last_generation) (slot_of id ∷ freed) freed
+
+-- The value under an id, if there is one.
+abbrev pub find : {T : Type 0} → List (ℕ × T) → ℕ → Option T
+find [] id = None
+find (e ∷ es) id = cond (e.0 == id) (Some e.1) (find es id)
+
 module _ {T : Type 0} where
-  -- the value under an id
-  abbrev pub value_at : List (ℕ × T) → ℕ → Option T
-  value_at [] id = None
-  value_at (e ∷ es) id = cond (e.0 == id) (Some e.1) (value_at es id)
+  -- no id stands twice
+  abbrev pub AreApart : List (ℕ × T) → Type 0
+  AreApart [] = Unit {0}
+  AreApart (e ∷ es) = (find es e.0 ≡ None) × AreApart es
+
+  -- the ids of the entries, by ascending slot
+  abbrev pub all_ids : List (ℕ × T) → List ℕ
+  all_ids es = map (λ e. e.0) es
 
   -- the entries with one more, in the order of the slots
   abbrev pub with_entry : List (ℕ × T) → ℕ → T → List (ℕ × T)
@@ -122,13 +136,9 @@ module _ {T : Type 0} where
     freed = drop 1 t.freed;
   }
 
-  -- the freed slots with one more, unless that one gave its last id
-  abbrev pub freed_with : Table T → ℕ → List ℕ
-  freed_with t slot = cond (nat_le (slice_index t.given slot) t.last_generation) (slot ∷ t.freed) t.freed
-
   -- the table without the value of an id; it stays as it is where the id has none
   abbrev pub table_removed : Table T → ℕ → Table T
   table_removed t id =
-      cond (is_some (value_at t.entries id))
-      (record t { entries = without_entry t.entries id; freed = freed_with t (slot_of id) })
+      cond (is_some (find t.entries id))
+      (record t { entries = without_entry t.entries id; freed = freed_with t.last_generation t.given t.freed id })
       t

@@ -5,7 +5,7 @@
 ghost use Rattle.std.specs.Prelude.{◌≡◌, ◌≢◌, ℕ, ◌+◌, ◌<◌, ◌≤◌, ◌↔◌, ◌⊎◌, List, [], ◌∷◌, length, map, All, AllPairs, Contains, Some, None, IsSome, IfSome, IsTrue};
 ghost use Rattle.std.specs.List.Sorted.{IsStrictlyIncreasing};
 ghost use Rattle.span_id.specs.Id.{id_of, slot_of, generation_of, IsId};
-ghost use Rattle.span_slots.specs.Table.{value_at, id_from, ids_from, next_id, IsIssued, IsUsed, IsFull, is_free, is_retired};
+ghost use Rattle.span_slots.specs.Table.{find, all_ids, id_from, ids_from, next_id, IsIssued, IsUsed, IsFull, is_free, is_retired};
 ghost use Rattle.span_slots.specs.Change.{Change, Insert, Remove, Write, after, after_all};
 
 use super::Slots;
@@ -55,11 +55,11 @@ pub fn issued_ids_are_in_range<T>(slots: &Slots<T>)
 /// An id that was removed is never in the map again, however many calls later. Neither is any id
 /// that was issued and is not in the map.
 pub fn removed_id_never_comes_back<T>(slots: &Slots<T>)
-    ensures removed { (id : ℕ) (changes : List (Change T)) → IsSome (value_at slots.now.entries id) →
-        value_at (after_all (after slots.now (Remove id)) changes).entries id ≡ None }
+    ensures removed { (id : ℕ) (changes : List (Change T)) → IsSome (find slots.now.entries id) →
+        find (after_all (after slots.now (Remove id)) changes).entries id ≡ None }
     ensures absent { (id : ℕ) (changes : List (Change T)) →
-        IsIssued slots.now id → value_at slots.now.entries id ≡ None →
-        value_at (after_all slots.now changes).entries id ≡ None }
+        IsIssued slots.now id → find slots.now.entries id ≡ None →
+        find (after_all slots.now changes).entries id ≡ None }
 {
     let _opened = &slots.cells;
 }
@@ -67,7 +67,7 @@ pub fn removed_id_never_comes_back<T>(slots: &Slots<T>)
 /// The next value gets the slot that was freed last, at its next generation. Where no slot was freed
 /// it gets the lowest slot that was never used.
 pub fn next_slot_is_the_one_freed_last<T>(slots: &Slots<T>)
-    ensures freed_last { (id : ℕ) → IsSome (value_at slots.now.entries id) →
+    ensures freed_last { (id : ℕ) → IsSome (find slots.now.entries id) →
         generation_of id < slots.now.last_generation →
         next_id (after slots.now (Remove id)) ≡ Some (id_of (slot_of id) (generation_of id + 1)) }
     ensures else_first_use { slots.now.freed ≡ [] → IfSome (next_id slots.now) (λ id. generation_of id ≡ 0) }
@@ -86,7 +86,7 @@ pub fn retired_slots_are_never_given_again<T>(slots: &Slots<T>)
         IsTrue (is_retired slots.now slot) → IsTrue (is_retired (after_all slots.now changes) slot) }
     ensures never_next { (slot : ℕ) → IsTrue (is_retired slots.now slot) →
         IfSome (next_id slots.now) (λ id. slot_of id ≢ slot) }
-    ensures frees_none { (id : ℕ) → IsSome (value_at slots.now.entries id) →
+    ensures frees_none { (id : ℕ) → IsSome (find slots.now.entries id) →
         generation_of id ≡ slots.now.last_generation →
         next_id (after slots.now (Remove id)) ≡ next_id slots.now }
 {
@@ -114,15 +114,15 @@ pub fn freed_slots_may_be_given_again<T>(slots: &Slots<T>)
 /// Each id of the map was issued and is the last that its slot gave; no two ids of the map have one
 /// slot; and the map has its entries by ascending slot.
 pub fn each_slot_has_one_id<T>(slots: &Slots<T>)
-    ensures in_layout { (id : ℕ) → IsSome (value_at slots.now.entries id) → IsId id }
-    ensures issued { (id : ℕ) → IsSome (value_at slots.now.entries id) → IsIssued slots.now id }
-    ensures newest { (id : ℕ) → IsSome (value_at slots.now.entries id) →
+    ensures in_layout { (id : ℕ) → IsSome (find slots.now.entries id) → IsId id }
+    ensures issued { (id : ℕ) → IsSome (find slots.now.entries id) → IsIssued slots.now id }
+    ensures newest { (id : ℕ) → IsSome (find slots.now.entries id) →
         (IsIssued slots.now (id_of (slot_of id) (generation_of id + 1)) → ⊥) }
     ensures one_slot { (id other : ℕ) →
-        IsSome (value_at slots.now.entries id) → IsSome (value_at slots.now.entries other) →
+        IsSome (find slots.now.entries id) → IsSome (find slots.now.entries other) →
         slot_of id ≡ slot_of other → id ≡ other }
     ensures ascending { IsStrictlyIncreasing (map (λ e. slot_of e.0) slots.now.entries) }
-    ensures found { All (λ e. value_at slots.now.entries e.0 ≡ Some e.1) slots.now.entries }
+    ensures found { All (λ e. find slots.now.entries e.0 ≡ Some e.1) slots.now.entries }
 {
     let _opened = &slots.cells;
 }
@@ -130,7 +130,7 @@ pub fn each_slot_has_one_id<T>(slots: &Slots<T>)
 /// A walk by `id_from`, which begins at slot 0 and goes on at the slot after the one that was told, meets each id of
 /// the map once, and no other: by ascending slot.
 pub fn a_walk_meets_each_id_once<T>(slots: &Slots<T>)
-    ensures all { ids_from slots.now.entries 0 ≡ map (λ e. e.0) slots.now.entries }
+    ensures all { ids_from slots.now.entries 0 ≡ all_ids slots.now.entries }
     ensures next { (slot id : ℕ) → id_from slots.now.entries slot ≡ Some id →
         ids_from slots.now.entries slot ≡ id ∷ ids_from slots.now.entries (slot_of id + 1) }
     ensures end { (slot : ℕ) → id_from slots.now.entries slot ≡ None → ids_from slots.now.entries slot ≡ [] }
@@ -140,32 +140,32 @@ pub fn a_walk_meets_each_id_once<T>(slots: &Slots<T>)
 
 /// `insert` puts the value under the new id, which had none, and changes no other id's value.
 pub fn insert_adds_its_value_alone<T>(slots: &Slots<T>)
-    ensures absent { IfSome (next_id slots.now) (λ id. value_at slots.now.entries id ≡ None) }
+    ensures absent { IfSome (next_id slots.now) (λ id. find slots.now.entries id ≡ None) }
     ensures added { (value : T) → IfSome (next_id slots.now) (λ id.
-        value_at (after slots.now (Insert value)).entries id ≡ Some value) }
+        find (after slots.now (Insert value)).entries id ≡ Some value) }
     ensures others { (value : T) (other : ℕ) → next_id slots.now ≢ Some other →
-        value_at (after slots.now (Insert value)).entries other ≡ value_at slots.now.entries other }
+        find (after slots.now (Insert value)).entries other ≡ find slots.now.entries other }
 {
     let _opened = &slots.cells;
 }
 
 /// `remove` takes out the value of its id and changes no other id's value.
 pub fn remove_takes_its_value_alone<T>(slots: &Slots<T>)
-    ensures gone { (id : ℕ) → value_at (after slots.now (Remove id)).entries id ≡ None }
+    ensures gone { (id : ℕ) → find (after slots.now (Remove id)).entries id ≡ None }
     ensures others { (id other : ℕ) → other ≢ id →
-        value_at (after slots.now (Remove id)).entries other ≡ value_at slots.now.entries other }
+        find (after slots.now (Remove id)).entries other ≡ find slots.now.entries other }
 {
     let _opened = &slots.cells;
 }
 
 /// A write through what `get_mut` gave changes the value of its id, and nothing else of the table.
 pub fn write_changes_its_value_alone<T>(slots: &Slots<T>)
-    ensures written { (id : ℕ) (value : T) → IsSome (value_at slots.now.entries id) →
-        value_at (after slots.now (Write id value)).entries id ≡ Some value }
+    ensures written { (id : ℕ) (value : T) → IsSome (find slots.now.entries id) →
+        find (after slots.now (Write id value)).entries id ≡ Some value }
     ensures others { (id other : ℕ) (value : T) → other ≢ id →
-        value_at (after slots.now (Write id value)).entries other ≡ value_at slots.now.entries other }
+        find (after slots.now (Write id value)).entries other ≡ find slots.now.entries other }
     ensures ids { (id : ℕ) (value : T) →
-        map (λ e. e.0) (after slots.now (Write id value)).entries ≡ map (λ e. e.0) slots.now.entries }
+        all_ids (after slots.now (Write id value)).entries ≡ all_ids slots.now.entries }
     ensures next { (id : ℕ) (value : T) → next_id (after slots.now (Write id value)) ≡ next_id slots.now }
 {
     let _opened = &slots.cells;

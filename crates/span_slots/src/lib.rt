@@ -9,7 +9,7 @@ ghost use Rattle.std.specs.Prelude.{◌≡◌, ℕ, ◌+◌, ◌-◌, ◌<◌, �
 ghost use Rattle.std.specs.Option.{option_copied_mut};
 ghost use Rattle.std.specs.Borrow.{sem};
 ghost use Rattle.span_id.specs.Id.{IsId, slot_of};
-ghost use Rattle.span_slots.specs.Table.{Table, value_at, id_from, next_id, next_slot, table_inserted, table_removed, IsIssued, free_count};
+ghost use Rattle.span_slots.specs.Table.{Table, find, all_ids, id_from, next_id, next_slot, table_inserted, table_removed, IsIssued, free_count};
 ghost use Rattle.span_slots.specs.Change.{Insert, Remove, after};
 
 mod cells;
@@ -121,7 +121,7 @@ impl<T: Drop> Slots<T> {
     ///
     /// It looks at each slot that was ever used.
     pub fn ids(&self) -> Result<Vec<Id>, Fault>
-        ensures ids { IfOk result (λ ids. ids.items ≡ map (λ e. e.0) self.now.entries) }
+        ensures ids { IfOk result (λ ids. ids.items ≡ all_ids self.now.entries) }
         ensures fault { IfErr result (λ fault. fault ≡ Fault.Memory) }
     {
         let alloc = *self.cells.allocator();
@@ -154,7 +154,7 @@ impl<T: Drop> Slots<T> {
 
     /// The value under an id.
     pub fn get(&self, id: Id) -> Option<&T>
-        ensures { option_copied result ≡ value_at self.now.entries id }
+        ensures { option_copied result ≡ find self.now.entries id }
     {
         let place = id.slot() as usize;
         let given = u64::from(id.generation()) + 1;
@@ -189,7 +189,7 @@ impl<T: Drop> Slots<T> {
     /// The value under an id, for writing.
     pub fn get_mut(&mut self, id: Id) -> Option<&mut T>
         ensures* writes_back { sem 𝓛 (lends_get T.row self.entry id result) }
-        ensures value { option_copied_mut result ≡ value_at self.old.entries id }
+        ensures value { option_copied_mut result ≡ find self.old.entries id }
     {
         if self.get(id).is_some() {
             Some(self.value_mut(id))
@@ -200,9 +200,9 @@ impl<T: Drop> Slots<T> {
 
     // The value under an id that is there.
     fn value_mut(&mut self, id: Id) -> &mut T
-        requires { IsSome (value_at self.old.entries id) }
+        requires { IsSome (find self.old.entries id) }
         ensures* writes_back { sem 𝓛 (lends_value T.row self.entry id result) }
-        ensures value { value_at self.old.entries id ≡ Some result.now }
+        ensures value { find self.old.entries id ≡ Some result.now }
     {
         let slot = id.slot();
         let _generation = id.generation();
@@ -217,7 +217,7 @@ impl<T: Drop> Slots<T> {
     pub fn insert(&mut self, value: T) -> Result<Id, (T, Fault)>
         ensures full { IsOk result ↔ IsSome (next_id self.old) }
         ensures id { IfOk result (λ id. next_id self.old ≡ Some id) }
-        ensures vacant { IfOk result (λ id. value_at self.old.entries id ≡ None) }
+        ensures vacant { IfOk result (λ id. find self.old.entries id ≡ None) }
         ensures table { IfOk result (λ id. self.new ≡ table_inserted self.old (slot_of id) value) }
         ensures change { self.new ≡ after self.old (Insert value) }
 
@@ -239,7 +239,7 @@ impl<T: Drop> Slots<T> {
         requires { 0 < length self.old.freed }
         ensures slot { next_slot self.old ≡ Some (slot_of result) }
         ensures id { next_id self.old ≡ Some result }
-        ensures vacant { value_at self.old.entries result ≡ None }
+        ensures vacant { find self.old.entries result ≡ None }
         ensures table { self.new ≡ table_inserted self.old (slot_of result) value }
     {
         let Some(slot) = self.freed.pop() else {
@@ -259,7 +259,7 @@ impl<T: Drop> Slots<T> {
         requires room { length self.old.given < self.old.slots }
         ensures slot { next_slot self.old ≡ Some (slot_of result) }
         ensures id { next_id self.old ≡ Some result }
-        ensures vacant { value_at self.old.entries result ≡ None }
+        ensures vacant { find self.old.entries result ≡ None }
         ensures table { self.new ≡ table_inserted self.old (slot_of result) value }
     {
         let slot = self.cells.len() as u32;
@@ -275,7 +275,7 @@ impl<T: Drop> Slots<T> {
     ///
     /// The slot may be given again, unless the id was its last one.
     pub fn remove(&mut self, id: Id) -> Option<T>
-        ensures value { result ≡ value_at self.old.entries id }
+        ensures value { result ≡ find self.old.entries id }
         ensures table { self.new ≡ table_removed self.old id }
         ensures change { self.new ≡ after self.old (Remove id) }
     {
@@ -287,8 +287,8 @@ impl<T: Drop> Slots<T> {
 
     // Takes out a value that is there.
     fn take_out(&mut self, id: Id) -> T
-        requires { IsSome (value_at self.old.entries id) }
-        ensures value { value_at self.old.entries id ≡ Some result }
+        requires { IsSome (find self.old.entries id) }
+        ensures value { find self.old.entries id ≡ Some result }
         ensures table { self.new ≡ table_removed self.old id }
     {
         let slot = id.slot();

@@ -4,7 +4,7 @@ use Rattle.std.specs.Option.{option_eq}
 use Rattle.std.proofs.lemmas.Bool.{cases_Bool}
 use Rattle.std.proofs.lemmas.Bool.Decides.{eqb_tells}
 use Rattle.span_id.specs.declared.fault.Fault.{Fault}
-use Rattle.span_slots.specs.Table.{value_at}
+use Rattle.span_slots.specs.Table.{find}
 use Rattle.span_store.specs.StoredSpan.{StoredSpan, added_span, with_handles}
 use Rattle.span_store.specs.StoredSpans.{StoredSpans, children_there, is_closing, IsClosing, parent_if_there}
 use Rattle.span_store.specs.Store.{StoreView}
@@ -34,7 +34,7 @@ closes_only s (Add parent bits word) j w h closing =
     let c = closing_parts new.table.entries j closing in
     elim (eqb_tells j a.0) [
       | inl q ↦ absurd (
-          let same = some_same (value_at new.table.entries j) c.0 span c.1 (rw q.1 (added_same s new parent span a.0 a.1)) in
+          let same = some_same (find new.table.entries j) c.0 span c.1 (rw q.1 (added_same s new parent span a.0 a.1)) in
           let one : c.0.handles ≡ 1 = ap (λ (n : StoredSpan). n.handles) same in
           omega (arith, one, c.2))
       | inr q ↦ inr (
@@ -48,7 +48,7 @@ closes_only s (Keep id) j w h closing =
     elim (eqb_tells j id) [
       | inl q ↦ absurd (
           let c = closing_parts new.table.entries j closing in
-          let same = some_same (value_at new.table.entries j) c.0 changed c.1 (rw q.1 (written_same s new id a.0 changed a.1)) in
+          let same = some_same (find new.table.entries j) c.0 changed c.1 (rw q.1 (written_same s new id a.0 changed a.1)) in
           let more : c.0.handles ≡ a.0.handles + 1 = ap (λ (n : StoredSpan). n.handles) same in
           omega (arith, more, c.2))
       | inr q ↦ inr (closed_by_write s new id j a.0 changed w a.1 q.1 closing)
@@ -66,7 +66,7 @@ closes_only s (Ended id) j w h closing =
     let a = takes s id h in
     let c = closing_parts new.table.entries j closing in
     elim (eqb_tells j id) [
-      | inl q ↦ absurd (not_none (value_at new.table.entries j) c.0 c.1 (rw q.1 (taken_same s new id a.0 a.1)))
+      | inl q ↦ absurd (not_none (find new.table.entries j) c.0 c.1 (rw q.1 (taken_same s new id a.0 a.1)))
       | inr q ↦ elim (cases_Bool (option_eq eqb a.0.parent (Some j))) [
         | inl t ↦ inl (ap parent_if_there a.1.found ∙ eq_some_true a.0.parent j t)
         | inr t ↦ inr (
@@ -84,7 +84,7 @@ was_held s (Release id) j w h e closing =
     let a = releases s id h in
     let same : id ≡ j = cc in
     let c = closing_parts s.table.entries j closing in
-    let span = some_same (value_at s.table.entries j) c.0 a.0 c.1 (rw (← same) a.1.found) in
+    let span = some_same (find s.table.entries j) c.0 a.0 c.1 (rw (← same) a.1.found) in
     let held : c.0.handles ≡ a.0.handles = ap (λ (n : StoredSpan). n.handles) span in
     omega (arith, held, c.2, a.2)
 was_held s (Ended id) j w h e closing =
@@ -124,14 +124,14 @@ told_exactly s call j w = go (refusal s call) refl
       λ h. absurd (h.0 (subst (λ (x : StoreView). IsClosing x.table.entries j) (after_refused s call fault e) h.1)),
     )
 
-open_not_closing : (spans : StoredSpans) (id : ℕ) (span : StoredSpan) → value_at spans id ≡ Some span → 0 < span.handles + children_there spans id → IsClosing spans id → ⊥
+open_not_closing : (spans : StoredSpans) (id : ℕ) (span : StoredSpan) → find spans id ≡ Some span → 0 < span.handles + children_there spans id → IsClosing spans id → ⊥
 open_not_closing spans id span h low closing =
     let c = closing_parts spans id closing in
-    let same = some_same (value_at spans id) c.0 span c.1 h in
+    let same = some_same (find spans id) c.0 span c.1 h in
     let held : c.0.handles ≡ span.handles = ap (λ (n : StoredSpan). n.handles) same in
     omega (arith, held, c.2, c.3, low)
 
-stays_by_write : (s new : StoreView) (id j : ℕ) (span changed : StoredSpan) → IsStore s → Writes s new id span changed → j ≢ id → IsClosing s.table.entries j → (value_at new.table.entries j ≡ value_at s.table.entries j) × IsClosing new.table.entries j
+stays_by_write : (s new : StoreView) (id j : ℕ) (span changed : StoredSpan) → IsStore s → Writes s new id span changed → j ≢ id → IsClosing s.table.entries j → (find new.table.entries j ≡ find s.table.entries j) × IsClosing new.table.entries j
 stays_by_write s new id j span changed w a ne closing =
     let c = closing_parts s.table.entries j closing in
     let v = written_other s new id j span changed a ne in
@@ -149,13 +149,13 @@ no_weight s new parent span id j a e closing =
       | inr t ↦ rw t refl
     ]
 
-stays_done : (s : StoreView) (call : Call) (j : ℕ) → IsStore s → refusal s call ≡ None → call ≢ Ended j → IsClosing s.table.entries j → (value_at (store_then s call).table.entries j ≡ value_at s.table.entries j) × IsClosing (store_then s call).table.entries j
+stays_done : (s : StoreView) (call : Call) (j : ℕ) → IsStore s → refusal s call ≡ None → call ≢ Ended j → IsClosing s.table.entries j → (find (store_then s call).table.entries j ≡ find s.table.entries j) × IsClosing (store_then s call).table.entries j
 stays_done s (Add parent bits word) j w h ne closing =
     let new = store_then s (Add parent bits word) in
     let span = added_span parent bits word in
     let a = adds s parent bits word w h in
     let c = closing_parts s.table.entries j closing in
-    let other : j ≢ a.0 = two_ids s.table.entries j a.0 (there_is (value_at s.table.entries j) c.0 c.1) a.1.vacant in
+    let other : j ≢ a.0 = two_ids s.table.entries j a.0 (there_is (find s.table.entries j) c.0 c.1) a.1.vacant in
     let v = added_other s new parent span a.0 j a.1 other in
     let k = added_children s new parent span a.0 j a.1 in
     let none = no_weight s new parent span a.0 j a.1 refl closing in
@@ -183,14 +183,14 @@ stays_done s (Ended id) j w h ne closing =
     let k = taken_children s new id j a.0 w a.1 in
     (v, closing_from new.table.entries j c.0 (v ∙ c.1) c.2 (omega (arith, k, c.3)))
 
-pub stays : (s : StoreView) (call : Call) (j : ℕ) → IsStore s → call ≢ Ended j → IsClosing s.table.entries j → (value_at (store_after s call).table.entries j ≡ value_at s.table.entries j) × IsClosing (store_after s call).table.entries j
+pub stays : (s : StoreView) (call : Call) (j : ℕ) → IsStore s → call ≢ Ended j → IsClosing s.table.entries j → (find (store_after s call).table.entries j ≡ find s.table.entries j) × IsClosing (store_after s call).table.entries j
 stays s call j w ne closing = go (refusal s call) refl
   where
-    go : (o : Option Fault) → refusal s call ≡ o → (value_at (store_after s call).table.entries j ≡ value_at s.table.entries j) × IsClosing (store_after s call).table.entries j
+    go : (o : Option Fault) → refusal s call ≡ o → (find (store_after s call).table.entries j ≡ find s.table.entries j) × IsClosing (store_after s call).table.entries j
     go None e = rw (after_accepted s call e) (stays_done s call j w e ne closing)
     go (Some fault) e = rw (after_refused s call fault e) (refl, closing)
 
-pub stays_same : (s : StoreView) (calls : List Call) (j : ℕ) → IsStore s → IsClosing s.table.entries j → NeverEnds j calls → value_at (store_after_all s calls).table.entries j ≡ value_at s.table.entries j
+pub stays_same : (s : StoreView) (calls : List Call) (j : ℕ) → IsStore s → IsClosing s.table.entries j → NeverEnds j calls → find (store_after_all s calls).table.entries j ≡ find s.table.entries j
 stays_same s [] j w closing never = refl
 stays_same s (call ∷ calls) j w closing never =
     let one = stays s call j w never.0 closing in

@@ -1,7 +1,7 @@
 -- What `ended` leaves and answers.
 use Rattle.std.proofs.Common.{◌≡◌, ℕ, ◌+◌, ◌-◌, ◌<◌, Bool, eqb, cond, Option, Some, None, sym, ap, subst, ◌∙◌}
 use Rattle.std.specs.Option.{IsSomeAnd}
-use Rattle.span_slots.specs.Table.{Table, value_at, with_value, table_removed}
+use Rattle.span_slots.specs.Table.{Table, find, with_value, table_removed}
 use Rattle.span_store.specs.declared.entry.Entry.{Entry}
 use Rattle.span_store.specs.StoredSpans.{parent_if_there, parent_there, is_closing}
 use Rattle.span_store.specs.Store.{StoreView}
@@ -13,11 +13,11 @@ use Rattle.span_store.proofs.Views.{view_of, ended_at, after_accepted, told_acce
 
 -- an entry that nothing holds was taken out
 pub record IsEnding (t less : Table Entry) (id : ℕ) (entry : Entry) : Type 0 where
-  pub found : value_at t.entries id ≡ Some entry
+  pub found : find t.entries id ≡ Some entry
   pub none_holds : entry.handles + entry.children ≡ 0
   pub taken : less ≡ table_removed t id
 
-pub ending : (t less : Table Entry) (id : ℕ) (entry : Entry) (o : Option Entry) → o ≡ value_at t.entries id → o ≡ Some entry → less ≡ table_removed t id → IsSomeAnd (value_at t.entries id) (λ e. e.handles + e.children ≡ 0) → IsEnding t less id entry
+pub ending : (t less : Table Entry) (id : ℕ) (entry : Entry) (o : Option Entry) → o ≡ find t.entries id → o ≡ Some entry → less ≡ table_removed t id → IsSomeAnd (find t.entries id) (λ e. e.handles + e.children ≡ 0) → IsEnding t less id entry
 ending t less id entry o value is taken closing =
     let found = sym value ∙ is in record {
       found = found;
@@ -55,13 +55,13 @@ module _ (t less : Table Entry) (max_count handles id : ℕ) (entry : Entry)
   root_told root = sym (told_after less None (root_ended root) root)
 
   module _ (p : ℕ) (parent : entry.parent ≡ Some p) where
-    above : (up : Entry) × (value_at less.entries p ≡ Some up) × (0 < up.children)
+    above : (up : Entry) × (find less.entries p ≡ Some up) × (0 < up.children)
     above = parent_counts t less max_count handles id entry w k.found k.none_holds k.taken p parent
 
-    pub parent_counted : IsSomeAnd (value_at less.entries p) (λ e. 0 < e.children)
+    pub parent_counted : IsSomeAnd (find less.entries p) (λ e. 0 < e.children)
     parent_counted = let up = above in subst (λ o. IsSomeAnd o (λ (e : Entry). 0 < e.children)) (sym up.1) up.2
 
-    module _ (new : Table Entry) (written : (e : Entry) → value_at less.entries p ≡ Some e → new ≡ record less { entries = with_value less.entries p (record e { children = e.children - 1 }) }) where
+    module _ (new : Table Entry) (written : (e : Entry) → find less.entries p ≡ Some e → new ≡ record less { entries = with_value less.entries p (record e { children = e.children - 1 }) }) where
       child_ended : HasEnded t new max_count handles id
       child_ended = let up = above in ended_child t less max_count handles id entry w k.found k.none_holds k.taken p parent new up.0 up.1 up.2 (written up.0 up.1)
 
@@ -71,7 +71,7 @@ module _ (t less : Table Entry) (max_count handles id : ℕ) (entry : Entry)
       pub child_view : view_of new max_count ≡ store_after (view_of t max_count) (Ended id)
       child_view = view_after new child_ended
 
-      pub child_told : (result : Bool) → ((e : Entry) → value_at less.entries p ≡ Some e → result ≡ eqb (e.handles + (e.children - 1)) 0) → cond result (Some p) None ≡ told (view_of t max_count) (Ended id)
+      pub child_told : (result : Bool) → ((e : Entry) → find less.entries p ≡ Some e → result ≡ eqb (e.handles + (e.children - 1)) 0) → cond result (Some p) None ≡ told (view_of t max_count) (Ended id)
       child_told result last =
           let up = above in
           let c : is_closing (spans_of new.entries) p ≡ result = closing_above t less max_count handles id entry w k.found k.none_holds k.taken p parent new up.0 up.1 up.2 (written up.0 up.1) ∙ sym (last up.0 up.1) in

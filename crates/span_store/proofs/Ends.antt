@@ -1,23 +1,23 @@
 -- A span that ends, and its parent's count.
 use Rattle.std.proofs.Common.{◌≡◌, ◌≢◌, ℕ, ◌+◌, ◌-◌, ◌<◌, ◌≤◌, eqb, length, Some, None, refl, sym, ap, subst, ◌∙◌, inl, inr, arith}
 use Rattle.std.proofs.lemmas.Bool.Decides.{eqb_tells}
-use Rattle.span_id.specs.Id.{slot_of}
-use Rattle.span_slots.specs.Table.{Table, value_at, without_entry, with_value, table_removed, freed_with}
+use Rattle.span_slots.specs.Table.{Table, find, without_entry, with_value, table_removed, freed_with, AreApart}
 use Rattle.span_slots.specs.Change.{Remove, Write, after}
 use Rattle.span_slots.proofs.Issued.{IsKept, IsKept-after}
-use Rattle.span_slots.proofs.Entries.{value_at-without_entry_same, value_at-without_entry_other, value_at-with_value_same, value_at-with_value_other}
+use Rattle.span_slots.proofs.Entries.{find-without_same, find-without_other, find-with_value_same, find-with_value_other}
 use Rattle.span_store.specs.declared.entry.Entry.{Entry}
 use Rattle.span_store.specs.StoredSpan.{plain_entry}
 use Rattle.span_store.specs.StoredSpans.{children_there, all_handles, parent_there, parent_if_there, is_closing}
-use Rattle.span_store.specs.inside.Invariant.{spans_of, span_table, AreApart, IsForest, IsConsistent}
-use Rattle.span_store.proofs.Maps.{apart-without_entry, apart-with_value, some_same, not_none, there_is}
+use Rattle.span_store.specs.inside.Invariant.{spans_of, span_table, IsForest, IsConsistent}
+use Rattle.span_slots.proofs.Apart.{AreApart-without_entry, AreApart-with_value}
+use Rattle.span_store.proofs.Maps.{some_same, not_none, there_is}
 use Rattle.span_store.proofs.Counts.{children_there-without_entry, total-without_entry, weight, weight_root, weight_same, weight_other, some_child, no_child}
 use Rattle.span_store.proofs.Forests.{forest-without_entry}
 use Rattle.span_store.proofs.Plain.{span_at, entry_at, spans-without_entry, spans_same, apart-spans, spans-removed}
 use Rattle.span_store.proofs.Upheld.{length-without_entry, length-with_value}
 use Rattle.span_store.proofs.Views.{is_closing-at}
 
-removed_is : (t : Table Entry) (id : ℕ) (entry : Entry) → value_at t.entries id ≡ Some entry → table_removed t id ≡ record t { entries = without_entry t.entries id; freed = freed_with t (slot_of id) }
+removed_is : (t : Table Entry) (id : ℕ) (entry : Entry) → find t.entries id ≡ Some entry → table_removed t id ≡ record t { entries = without_entry t.entries id; freed = freed_with t.last_generation t.given t.freed id }
 removed_is t id entry h = rw h refl
 
 -- what an end leaves
@@ -26,7 +26,7 @@ pub record HasEnded (t new : Table Entry) (max_count handles id : ℕ) : Type 0 
   pub table : span_table new ≡ after (span_table t) (Remove id)
 
 module _ (t less : Table Entry) (max_count handles id : ℕ) (entry : Entry)
-    (w : IsConsistent t max_count handles) (found : value_at t.entries id ≡ Some entry)
+    (w : IsConsistent t max_count handles) (found : find t.entries id ≡ Some entry)
     (none_holds : entry.handles + entry.children ≡ 0) (e : less ≡ table_removed t id) where
   left : less.entries ≡ without_entry t.entries id
   left = ap (λ (x : Table Entry). x.entries) (e ∙ removed_is t id entry found)
@@ -47,7 +47,7 @@ module _ (t less : Table Entry) (max_count handles id : ℕ) (entry : Entry)
   left_forest = forest-without_entry (spans_of t.entries) id childless w.forest
 
   left_apart : AreApart less.entries
-  left_apart = subst AreApart (sym left) (apart-without_entry t.entries id w.apart)
+  left_apart = subst AreApart (sym left) (AreApart-without_entry t.entries id w.apart)
 
   left_kept : IsKept less
   left_kept = subst IsKept (sym e) (IsKept-after t (Remove id) w.kept)
@@ -56,11 +56,11 @@ module _ (t less : Table Entry) (max_count handles id : ℕ) (entry : Entry)
   left_few = let a = ap length left in let b = length-without_entry t.entries id in let f = w.few in omega (arith, a, b, f)
 
   -- an entry that is left is another one, and was there before
-  before : (j : ℕ) (x : Entry) → value_at less.entries j ≡ Some x → (j ≢ id) × (value_at t.entries j ≡ Some x)
+  before : (j : ℕ) (x : Entry) → find less.entries j ≡ Some x → (j ≢ id) × (find t.entries j ≡ Some x)
   before j x f =
-      let g : value_at (without_entry t.entries id) j ≡ Some x = rw left at f in
-      let ne : j ≢ id = λ q. not_none (value_at (without_entry t.entries id) j) x g (rw q (value_at-without_entry_same t.entries id)) in
-      (ne, sym (value_at-without_entry_other t.entries id j (λ q. ne (sym q))) ∙ g)
+      let g : find (without_entry t.entries id) j ≡ Some x = rw left at f in
+      let ne : j ≢ id = λ q. not_none (find (without_entry t.entries id) j) x g (rw q (find-without_same t.entries id)) in
+      (ne, sym (find-without_other t.entries id j ne) ∙ g)
 
   pub ended_root : entry.parent ≡ None → HasEnded t less max_count handles id
   ended_root root = record {
@@ -89,51 +89,51 @@ module _ (t less : Table Entry) (max_count handles id : ℕ) (entry : Entry)
     parent_is = ap parent_if_there (span_at t.entries id entry found) ∙ parent
 
     -- the parent is there, and counts the child
-    pub parent_counts : (above : Entry) × (value_at less.entries p ≡ Some above) × (0 < above.children)
+    pub parent_counts : (above : Entry) × (find less.entries p ≡ Some above) × (0 < above.children)
     parent_counts =
-        let ne : id ≢ p = λ q. no_child (spans_of t.entries) id id childless (parent_is ∙ ap (λ x. Some x) (sym q)) in
+        let ne : p ≢ id = λ q. no_child (spans_of t.entries) id id childless (parent_is ∙ ap (λ x. Some x) q) in
         let up = entry_at t.entries p (w.forest.parents_there id p parent_is) in
         let c = w.counted p up.0 up.1 in
         let some = some_child (spans_of t.entries) p id parent_is in
-        let at : value_at less.entries p ≡ Some up.0 = ap (λ s. value_at s p) left ∙ (value_at-without_entry_other t.entries id p ne ∙ up.1) in
+        let at : find less.entries p ≡ Some up.0 = ap (λ s. find s p) left ∙ (find-without_other t.entries id p ne ∙ up.1) in
         (up.0, at, omega (arith, c, some))
 
-    pub ended_child : (new : Table Entry) (above : Entry) → value_at less.entries p ≡ Some above → 0 < above.children → new ≡ record less { entries = with_value less.entries p (record above { children = above.children - 1 }) } → HasEnded t new max_count handles id
+    pub ended_child : (new : Table Entry) (above : Entry) → find less.entries p ≡ Some above → 0 < above.children → new ≡ record less { entries = with_value less.entries p (record above { children = above.children - 1 }) } → HasEnded t new max_count handles id
     ended_child new above at some n =
         let up : Entry = record above { children = above.children - 1 } in
         let news : new.entries ≡ with_value less.entries p up = ap (λ (x : Table Entry). x.entries) n in
         let same_spans : spans_of (with_value less.entries p up) ≡ spans_of less.entries = spans_same less.entries p above up left_apart at refl in
         let spans : spans_of new.entries ≡ without_entry (spans_of t.entries) id = ap spans_of news ∙ (same_spans ∙ left_spans) in
-        let there = there_is (value_at less.entries p) above at in
+        let there = there_is (find less.entries p) above at in
         record {
           consistent = record {
             kept = subst IsKept (sym n) (IsKept-after less (Write p up) left_kept);
-            apart = subst AreApart (sym news) (apart-with_value less.entries p up left_apart);
+            apart = subst AreApart (sym news) (AreApart-with_value less.entries p up left_apart);
             counted = λ j x f. (
-                let g : value_at (with_value less.entries p up) j ≡ Some x = rw news at f in
+                let g : find (with_value less.entries p up) j ≡ Some x = rw news at f in
                 let k = ap (λ s. children_there s j) spans in
                 let k2 = left_children j in
                 elim (eqb_tells j p) [
-                  | inl q ↦ (let same = some_same (value_at (with_value less.entries p up) j) x up g (rw q.1 (value_at-with_value_same less.entries p up there)) in
+                  | inl q ↦ (let same = some_same (find (with_value less.entries p up) j) x up g (rw q.1 (find-with_value_same less.entries p up there)) in
                       let c = ap (λ (z : Entry). z.children) same in
                       let here = ap (children_there (spans_of t.entries)) q.1 in
                       let was = w.counted p above (before p above at).1 in
                       let one = weight_same entry.parent p j parent q.1 in
                       omega (arith, k, k2, c, here, was, one, some))
-                  | inr q ↦ (let b = before j x (sym (value_at-with_value_other less.entries p j up (λ z. q.1 (sym z))) ∙ g) in
+                  | inr q ↦ (let b = before j x (sym (find-with_value_other less.entries p j up q.1) ∙ g) in
                       let c = w.counted j x b.1 in
                       let none = weight_other entry.parent p j parent q.1 in
                       omega (arith, k, k2, c, none))
                 ]);
             bounded = λ j x f. (
-                let g : value_at (with_value less.entries p up) j ≡ Some x = rw news at f in
+                let g : find (with_value less.entries p up) j ≡ Some x = rw news at f in
                 elim (eqb_tells j p) [
-                  | inl q ↦ (let same = some_same (value_at (with_value less.entries p up) j) x up g (rw q.1 (value_at-with_value_same less.entries p up there)) in
+                  | inl q ↦ (let same = some_same (find (with_value less.entries p up) j) x up g (rw q.1 (find-with_value_same less.entries p up there)) in
                       let c = ap (λ (z : Entry). z.children) same in
                       let d = ap (λ (z : Entry). z.handles) same in
                       let was = w.bounded p above (before p above at).1 in
                       omega (arith, c, d, was))
-                  | inr q ↦ (let b = before j x (sym (value_at-with_value_other less.entries p j up (λ z. q.1 (sym z))) ∙ g) in
+                  | inr q ↦ (let b = before j x (sym (find-with_value_other less.entries p j up q.1) ∙ g) in
                       w.bounded j x b.1)
                 ]);
             forest = subst IsForest (sym spans) left_forest;
@@ -146,9 +146,9 @@ module _ (t less : Table Entry) (max_count handles id : ℕ) (entry : Entry)
         }
 
     -- whether the parent is closing now
-    pub closing_above : (new : Table Entry) (above : Entry) → value_at less.entries p ≡ Some above → 0 < above.children → new ≡ record less { entries = with_value less.entries p (record above { children = above.children - 1 }) } → is_closing (spans_of new.entries) p ≡ eqb (above.handles + (above.children - 1)) 0
+    pub closing_above : (new : Table Entry) (above : Entry) → find less.entries p ≡ Some above → 0 < above.children → new ≡ record less { entries = with_value less.entries p (record above { children = above.children - 1 }) } → is_closing (spans_of new.entries) p ≡ eqb (above.handles + (above.children - 1)) 0
     closing_above new above at some n =
         let up : Entry = record above { children = above.children - 1 } in
         let news : new.entries ≡ with_value less.entries p up = ap (λ (x : Table Entry). x.entries) n in
-        let there = there_is (value_at less.entries p) above at in
-        is_closing-at new.entries p up (ended_child new above at some n).consistent.counted (rw news (value_at-with_value_same less.entries p up there))
+        let there = there_is (find less.entries p) above at in
+        is_closing-at new.entries p up (ended_child new above at some n).consistent.counted (rw news (find-with_value_same less.entries p up there))

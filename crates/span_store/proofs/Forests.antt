@@ -2,19 +2,19 @@
 use Rattle.std.proofs.Common.{◌≡◌, ◌≢◌, ℕ, zero, suc, ◌+◌, ◌<◌, ◌≤◌, eqb, cond, [], ◌∷◌, Option, Some, None, IsSome, refl, sym, ap, subst, ◌∙◌, inl, inr, arith}
 use Rattle.std.proofs.lemmas.Bool.{eq-eqb, ne_eqb}
 use Rattle.std.proofs.lemmas.Bool.Decides.{eqb_tells}
-use Rattle.span_slots.specs.Table.{value_at, with_entry, without_entry, with_value}
-use Rattle.span_slots.proofs.Entries.{value_at-with_entry_same, value_at-with_entry_other, value_at-without_entry_same, value_at-without_entry_other, value_at-with_value_same, value_at-with_value_other}
+use Rattle.span_slots.specs.Table.{find, with_entry, without_entry, with_value, AreApart}
+use Rattle.span_slots.proofs.Entries.{find-with_same, find-with_other, find-without_same, find-without_other, find-with_value_same, find-with_value_other}
 use Rattle.span_store.specs.StoredSpan.{StoredSpan}
 use Rattle.span_store.specs.StoredSpans.{StoredSpans, IsThere, parent_if_there, parent_there, children_there}
-use Rattle.span_store.specs.inside.Invariant.{AreApart, IsForest}
+use Rattle.span_store.specs.inside.Invariant.{IsForest}
 use Rattle.span_store.proofs.Maps.{two_ids, there_is}
 use Rattle.span_store.proofs.Counts.{parent_span, child_exists, no_child}
 
 pub child_there : (spans : StoredSpans) (c p : ℕ) → parent_there spans c ≡ Some p → IsThere spans c
-child_there spans c p e = let n = parent_span spans c p e in there_is (value_at spans c) n.0 n.1
+child_there spans c p e = let n = parent_span spans c p e in there_is (find spans c) n.0 n.1
 
 -- an id that isn't there has no children
-pub no_children : (spans : StoredSpans) (id : ℕ) → AreApart spans → IsForest spans → value_at spans id ≡ None → children_there spans id ≡ 0
+pub no_children : (spans : StoredSpans) (id : ℕ) → AreApart spans → IsForest spans → find spans id ≡ None → children_there spans id ≡ 0
 no_children spans id a f h = go (children_there spans id) refl
   where
     go : (n : ℕ) → children_there spans id ≡ n → children_there spans id ≡ 0
@@ -32,18 +32,18 @@ abbrev pub rank_below : (ℕ → ℕ) → Option ℕ → ℕ
 rank_below rank None = 0
 rank_below rank (Some p) = rank p + 1
 
-pub parent_there-with_entry_same : (spans : StoredSpans) (id : ℕ) (span : StoredSpan) → value_at spans id ≡ None → parent_there (with_entry spans id span) id ≡ span.parent
-parent_there-with_entry_same spans id span h = ap parent_if_there (value_at-with_entry_same spans id span h)
+pub parent_there-with_entry_same : (spans : StoredSpans) (id : ℕ) (span : StoredSpan) → find spans id ≡ None → parent_there (with_entry spans id span) id ≡ span.parent
+parent_there-with_entry_same spans id span h = ap parent_if_there (find-with_same spans id span h)
 
 pub parent_there-with_entry_other : (spans : StoredSpans) (id j : ℕ) (span : StoredSpan) → j ≢ id → parent_there (with_entry spans id span) j ≡ parent_there spans j
-parent_there-with_entry_other spans id j span ne = ap parent_if_there (value_at-with_entry_other spans id j span (λ q. ne (sym q)))
+parent_there-with_entry_other spans id j span ne = ap parent_if_there (find-with_other spans id j span ne)
 
-pub forest-with_entry : (spans : StoredSpans) (id : ℕ) (span : StoredSpan) → value_at spans id ≡ None → ((p : ℕ) → span.parent ≡ Some p → IsThere spans p) → IsForest spans → IsForest (with_entry spans id span)
+pub forest-with_entry : (spans : StoredSpans) (id : ℕ) (span : StoredSpan) → find spans id ≡ None → ((p : ℕ) → span.parent ≡ Some p → IsThere spans p) → IsForest spans → IsForest (with_entry spans id span)
 forest-with_entry spans id span h above f = record {
   parents_there = λ c p e. (
       let there : IsThere spans p = at c p e in
       let ne : p ≢ id = two_ids spans p id there h in
-      subst IsSome (sym (value_at-with_entry_other spans id p span (λ q. ne (sym q)))) there);
+      subst IsSome (sym (find-with_other spans id p span ne)) there);
   rank = new_rank;
   rises = λ c p e. (
       let ne : p ≢ id = two_ids spans p id (at c p e) h in
@@ -71,36 +71,36 @@ forest-with_entry spans id span h above f = record {
 pub parent_there-without_entry : (spans : StoredSpans) (id c p : ℕ) → parent_there (without_entry spans id) c ≡ Some p → parent_there spans c ≡ Some p
 parent_there-without_entry spans id c p e =
     elim (eqb_tells c id) [
-      | inl t ↦ (let gone : parent_there (without_entry spans id) c ≡ None = rw t.1 (ap parent_if_there (value_at-without_entry_same spans id)) in
+      | inl t ↦ (let gone : parent_there (without_entry spans id) c ≡ None = rw t.1 (ap parent_if_there (find-without_same spans id)) in
           let bad : None ≡ Some p = sym gone ∙ e in cc)
-      | inr t ↦ sym (ap parent_if_there (value_at-without_entry_other spans id c (λ q. t.1 (sym q)))) ∙ e
+      | inr t ↦ sym (ap parent_if_there (find-without_other spans id c t.1)) ∙ e
     ]
 
 pub forest-without_entry : (spans : StoredSpans) (id : ℕ) → children_there spans id ≡ 0 → IsForest spans → IsForest (without_entry spans id)
 forest-without_entry spans id z f = record {
   parents_there = λ c p e. (
       let before = parent_there-without_entry spans id c p e in
-      let ne : id ≢ p = λ q. no_child spans id c z (before ∙ ap (λ x. Some x) (sym q)) in
-      subst IsSome (sym (value_at-without_entry_other spans id p ne)) (f.parents_there c p before));
+      let ne : p ≢ id = λ q. no_child spans id c z (before ∙ ap (λ x. Some x) q) in
+      subst IsSome (sym (find-without_other spans id p ne)) (f.parents_there c p before));
   rank = f.rank;
   rises = λ c p e. f.rises c p (parent_there-without_entry spans id c p e);
 }
 
-pub parent_there-with_value : (spans : StoredSpans) (id c : ℕ) (span new : StoredSpan) → value_at spans id ≡ Some span → new.parent ≡ span.parent → parent_there (with_value spans id new) c ≡ parent_there spans c
+pub parent_there-with_value : (spans : StoredSpans) (id c : ℕ) (span new : StoredSpan) → find spans id ≡ Some span → new.parent ≡ span.parent → parent_there (with_value spans id new) c ≡ parent_there spans c
 parent_there-with_value spans id c span new h p =
     elim (eqb_tells c id) [
-      | inl t ↦ rw t.1 (ap parent_if_there (value_at-with_value_same spans id new (there_is (value_at spans id) span h)) ∙ (p ∙ sym (ap parent_if_there h)))
-      | inr t ↦ ap parent_if_there (value_at-with_value_other spans id c new (λ q. t.1 (sym q)))
+      | inl t ↦ rw t.1 (ap parent_if_there (find-with_value_same spans id new (there_is (find spans id) span h)) ∙ (p ∙ sym (ap parent_if_there h)))
+      | inr t ↦ ap parent_if_there (find-with_value_other spans id c new t.1)
     ]
 
-pub there-with_value : (spans : StoredSpans) (id c : ℕ) (span new : StoredSpan) → value_at spans id ≡ Some span → IsThere spans c → IsThere (with_value spans id new) c
+pub there-with_value : (spans : StoredSpans) (id c : ℕ) (span new : StoredSpan) → find spans id ≡ Some span → IsThere spans c → IsThere (with_value spans id new) c
 there-with_value spans id c span new h there =
     elim (eqb_tells c id) [
-      | inl t ↦ rw t.1 (there_is (value_at (with_value spans id new) id) new (value_at-with_value_same spans id new (there_is (value_at spans id) span h)))
-      | inr t ↦ subst IsSome (sym (value_at-with_value_other spans id c new (λ q. t.1 (sym q)))) there
+      | inl t ↦ rw t.1 (there_is (find (with_value spans id new) id) new (find-with_value_same spans id new (there_is (find spans id) span h)))
+      | inr t ↦ subst IsSome (sym (find-with_value_other spans id c new t.1)) there
     ]
 
-pub forest-with_value : (spans : StoredSpans) (id : ℕ) (span new : StoredSpan) → value_at spans id ≡ Some span → new.parent ≡ span.parent → IsForest spans → IsForest (with_value spans id new)
+pub forest-with_value : (spans : StoredSpans) (id : ℕ) (span new : StoredSpan) → find spans id ≡ Some span → new.parent ≡ span.parent → IsForest spans → IsForest (with_value spans id new)
 forest-with_value spans id span new h p f = record {
   parents_there = λ c q e. there-with_value spans id q span new h (f.parents_there c q (sym (parent_there-with_value spans id c span new h p) ∙ e));
   rank = f.rank;

@@ -4,7 +4,7 @@ use Rattle.std.specs.Option.{option_eq}
 use Rattle.std.proofs.lemmas.Bool.{cases_Bool, false≢true}
 use Rattle.std.proofs.lemmas.Bool.Decides.{eqb_tells}
 use Rattle.span_id.specs.declared.fault.Fault.{Fault}
-use Rattle.span_slots.specs.Table.{Table, value_at, next_id, IsIssued}
+use Rattle.span_slots.specs.Table.{Table, find, next_id, IsIssued}
 use Rattle.span_slots.specs.Change.{Insert, Remove, Write}
 use Rattle.span_slots.proofs.Issued.{issued_since, issued_for_good, absent_for_good}
 use Rattle.span_slots.proofs.Promises.{never_issued}
@@ -20,20 +20,20 @@ use Rattle.span_store.proofs.Others.{taken_same}
 use Rattle.span_store.proofs.Closing.{stays, told_exactly}
 
 -- what an id was, where it was issued and isn't there
-gone_done : (s : StoreView) (call : Call) (j : ℕ) → IsStore s → IsIssued s.table j → value_at s.table.entries j ≡ None → IsIssued (store_then s call).table j × (value_at (store_then s call).table.entries j ≡ None)
+gone_done : (s : StoreView) (call : Call) (j : ℕ) → IsStore s → IsIssued s.table j → find s.table.entries j ≡ None → IsIssued (store_then s call).table j × (find (store_then s call).table.entries j ≡ None)
 gone_done s (Add parent bits word) j w i none =
     let change = Insert (added_span parent bits word) ∷ [] in
     (issued_for_good s.table change j w.kept i, absent_for_good s.table change j w.kept i none)
-gone_done s (Keep id) j w i none = go (value_at s.table.entries id)
+gone_done s (Keep id) j w i none = go (find s.table.entries id)
   where
-    go : (o : Option StoredSpan) → IsIssued (handles_set s id (λ handles. handles + 1) o).table j × (value_at (handles_set s id (λ handles. handles + 1) o).table.entries j ≡ None)
+    go : (o : Option StoredSpan) → IsIssued (handles_set s id (λ handles. handles + 1) o).table j × (find (handles_set s id (λ handles. handles + 1) o).table.entries j ≡ None)
     go None = (i, none)
     go (Some span) =
         let change = Write id (with_handles (span.handles + 1) span) ∷ [] in
         (issued_for_good s.table change j w.kept i, absent_for_good s.table change j w.kept i none)
-gone_done s (Release id) j w i none = go (value_at s.table.entries id)
+gone_done s (Release id) j w i none = go (find s.table.entries id)
   where
-    go : (o : Option StoredSpan) → IsIssued (handles_set s id (λ handles. handles - 1) o).table j × (value_at (handles_set s id (λ handles. handles - 1) o).table.entries j ≡ None)
+    go : (o : Option StoredSpan) → IsIssued (handles_set s id (λ handles. handles - 1) o).table j × (find (handles_set s id (λ handles. handles - 1) o).table.entries j ≡ None)
     go None = (i, none)
     go (Some span) =
         let change = Write id (with_handles (span.handles - 1) span) ∷ [] in
@@ -42,14 +42,14 @@ gone_done s (Ended id) j w i none =
     let change = Remove id ∷ [] in
     (issued_for_good s.table change j w.kept i, absent_for_good s.table change j w.kept i none)
 
-gone_after : (s : StoreView) (call : Call) (j : ℕ) → IsStore s → IsIssued s.table j → value_at s.table.entries j ≡ None → IsIssued (store_after s call).table j × (value_at (store_after s call).table.entries j ≡ None)
+gone_after : (s : StoreView) (call : Call) (j : ℕ) → IsStore s → IsIssued s.table j → find s.table.entries j ≡ None → IsIssued (store_after s call).table j × (find (store_after s call).table.entries j ≡ None)
 gone_after s call j w i none = go (refusal s call) refl
   where
-    go : (o : Option Fault) → refusal s call ≡ o → IsIssued (store_after s call).table j × (value_at (store_after s call).table.entries j ≡ None)
+    go : (o : Option Fault) → refusal s call ≡ o → IsIssued (store_after s call).table j × (find (store_after s call).table.entries j ≡ None)
     go None e = rw (after_accepted s call e) (gone_done s call j w i none)
     go (Some fault) e = rw (after_refused s call fault e) (i, none)
 
-pub gone_for_good : (s : StoreView) (calls : List Call) (j : ℕ) → IsStore s → IsIssued s.table j → value_at s.table.entries j ≡ None → IsStore (store_after_all s calls) × (IsIssued (store_after_all s calls).table j × (value_at (store_after_all s calls).table.entries j ≡ None))
+pub gone_for_good : (s : StoreView) (calls : List Call) (j : ℕ) → IsStore s → IsIssued s.table j → find s.table.entries j ≡ None → IsStore (store_after_all s calls) × (IsIssued (store_after_all s calls).table j × (find (store_after_all s calls).table.entries j ≡ None))
 gone_for_good s [] j w i none = (w, (i, none))
 gone_for_good s (call ∷ calls) j w i none =
     let one = gone_after s call j w i none in
@@ -63,14 +63,14 @@ not_told s call j never =
       | inr t ↦ rw t refl
     ]
 
-pub gone_never_told : (s : StoreView) (calls : List Call) (j : ℕ) → IsStore s → IsIssued s.table j → value_at s.table.entries j ≡ None → times_told j s calls ≡ 0
+pub gone_never_told : (s : StoreView) (calls : List Call) (j : ℕ) → IsStore s → IsIssued s.table j → find s.table.entries j ≡ None → times_told j s calls ≡ 0
 gone_never_told s [] j w i none = refl
 gone_never_told s (call ∷ calls) j w i none =
     let one = gone_after s call j w i none in
     let never : told s call ≡ Some j → ⊥ = λ h. (
     let closing = ((told_exactly s call j w).0 h).1 in
     let c = closing_parts (store_after s call).table.entries j closing in
-    not_none (value_at (store_after s call).table.entries j) c.0 c.1 one.1) in
+    not_none (find (store_after s call).table.entries j) c.0 c.1 one.1) in
     let here = not_told s call j never in
     let rest = gone_never_told (store_after s call) calls j (IsStore-store_after s call w) one.0 one.1 in
     omega (arith, here, rest)
@@ -82,11 +82,11 @@ issued_there s j w h = issued_since s.table.given s.table.entries j w.kept.issue
 ended_is_accepted : (s : StoreView) (j : ℕ) → IsClosing s.table.entries j → refusal s (Ended j) ≡ None
 ended_is_accepted s j closing = rw closing refl
 
-pub ended_gone : (s : StoreView) (j : ℕ) → IsStore s → IsClosing s.table.entries j → IsIssued (store_after s (Ended j)).table j × (value_at (store_after s (Ended j)).table.entries j ≡ None)
+pub ended_gone : (s : StoreView) (j : ℕ) → IsStore s → IsClosing s.table.entries j → IsIssued (store_after s (Ended j)).table j × (find (store_after s (Ended j)).table.entries j ≡ None)
 ended_gone s j w closing =
     let e = ended_is_accepted s j closing in
     let c = closing_parts s.table.entries j closing in
-    let i = issued_there s j w (there_is (value_at s.table.entries j) c.0 c.1) in
+    let i = issued_there s j w (there_is (find s.table.entries j) c.0 c.1) in
     let a = takes s j e in
     rw (after_accepted s (Ended j) e) (issued_for_good s.table (Remove j ∷ []) j w.kept i, taken_same s (store_then s (Ended j)) j a.0 a.1)
 
@@ -111,7 +111,7 @@ told_no_more s (call ∷ calls) j w closing =
       | inl e ↦ (
           let g = ended_gone s j w closing in
           let i : IsIssued (store_after s call).table j = subst (λ (x : Call). IsIssued (store_after s x).table j) (sym e) g.0 in
-          let none : value_at (store_after s call).table.entries j ≡ None = subst (λ (x : Call). value_at (store_after s x).table.entries j ≡ None) (sym e) g.1 in
+          let none : find (store_after s call).table.entries j ≡ None = subst (λ (x : Call). find (store_after s x).table.entries j ≡ None) (sym e) g.1 in
           gone_never_told (store_after s call) calls j next i none)
       | inr ne ↦ told_no_more (store_after s call) calls j next (stays s call j w ne closing).1
     ] in

@@ -1,17 +1,17 @@
 -- How many spans and handles there are, and what holds them.
-use Rattle.std.proofs.Common.{◌≡◌, ◌≢◌, ℕ, ◌+◌, ◌-◌, ◌<◌, ◌≤◌, ltb, List, [], ◌∷◌, length, Option, Some, None, refl, ap, inl, inr, arith}
-use Rattle.std.proofs.lemmas.Bool.{cases_Bool, cases_lt, lt-ltb}
+use Rattle.std.proofs.Common.{◌≡◌, ◌≢◌, ℕ, ◌+◌, ◌-◌, ◌<◌, ◌≤◌, List, [], ◌∷◌, length, Option, Some, None, refl, ap, inl, inr, arith}
+use Rattle.std.proofs.lemmas.Bool.{cases_lt, lt-ltb}
 use Rattle.std.proofs.lemmas.Bool.Decides.{eqb_tells}
-use Rattle.span_id.specs.Id.{slot_of}
 use Rattle.span_id.specs.declared.fault.Fault.{Fault}
-use Rattle.span_slots.specs.Table.{Table, value_at, with_entry, without_entry}
+use Rattle.span_slots.specs.Table.{Table, find}
 use Rattle.span_store.specs.declared.entry.Entry.{Entry}
 use Rattle.span_store.specs.StoredSpan.{StoredSpan, added_span, with_handles}
 use Rattle.span_store.specs.StoredSpans.{StoredSpans, children_there, count, handles_if_there, IsClosing, IsStillHeld, parent_there, all_handles}
 use Rattle.span_store.specs.Store.{StoreView}
 use Rattle.span_store.specs.Calls.{Call, Add, Keep, Release, Ended, refusal, store_then, store_after, store_after_all, handles_then, spans_then}
-use Rattle.span_store.specs.inside.Invariant.{spans_of, AreApart, IsConsistent}
-use Rattle.span_store.proofs.Maps.{without_absent}
+use Rattle.span_store.specs.inside.Invariant.{spans_of, IsConsistent}
+use Rattle.span_slots.proofs.Apart.{length-with_entry, length-without_entry}
+use Rattle.span_store.proofs.Maps.{there_is}
 use Rattle.span_store.proofs.Counts.{total-with_entry, total-without_entry, total-with_value, some_child, no_child}
 use Rattle.span_store.proofs.Forests.{none_has_a_child_each, no_children}
 use Rattle.span_store.proofs.Plain.{apart-spans, no_span_at}
@@ -30,12 +30,12 @@ parent_open s id parent w e =
     let some = some_child s.table.entries parent id e in
     open_from s.table.entries parent f.0 f.1.found (omega (arith, some))
   where
-    open_from : (spans : StoredSpans) (j : ℕ) (span : StoredSpan) → value_at spans j ≡ Some span → 0 < span.handles + children_there spans j → IsStillHeld spans j
+    open_from : (spans : StoredSpans) (j : ℕ) (span : StoredSpan) → find spans j ≡ Some span → 0 < span.handles + children_there spans j → IsStillHeld spans j
     open_from spans j span h low =
         let c : 0 < count spans j = (let a = ap handles_if_there h in omega (arith, a, low)) in
         rw h (lt-ltb 0 (span.handles + children_there spans j) (rw h at c))
 
-handles_le_all : (spans : StoredSpans) (id : ℕ) (span : StoredSpan) → value_at spans id ≡ Some span → span.handles ≤ all_handles spans
+handles_le_all : (spans : StoredSpans) (id : ℕ) (span : StoredSpan) → find spans id ≡ Some span → span.handles ≤ all_handles spans
 handles_le_all [] id span h = cc
 handles_le_all (e ∷ es) id span h =
     elim (eqb_tells e.0 id) [
@@ -55,20 +55,6 @@ empty s w none never = none_has_a_child_each s.table.entries w.apart w.forest (�
       | inr zero ↦ absurd (never id (closing_from s.table.entries id f.0 f.1.found (omega (arith, le, none)) (omega (arith, zero))))
     ]))
 
-length-with_entry : (spans : StoredSpans) (id : ℕ) (span : StoredSpan) → length (with_entry spans id span) ≡ length spans + 1
-length-with_entry [] id span = omega arith
-length-with_entry (e ∷ es) id span =
-    let r = length-with_entry es id span in
-    elim (cases_Bool (ltb (slot_of id) (slot_of e.0))) [ inl t ↦ rw t (omega arith) | inr t ↦ rw t (omega arith) ]
-
-length-taken : (spans : StoredSpans) (id : ℕ) (span : StoredSpan) → AreApart spans → value_at spans id ≡ Some span → length (without_entry spans id) + 1 ≡ length spans
-length-taken [] id span a h = cc
-length-taken (e ∷ es) id span a h =
-    elim (eqb_tells e.0 id) [
-      | inl t ↦ (let k : value_at es id ≡ None = rw t.1 at a.0 in rw (t.0, without_absent es id k) (omega arith))
-      | inr t ↦ (let r = length-taken es id span a.1 (rw t.0 at h) in rw t.0 (omega arith))
-    ]
-
 pub numbers_done : (s : StoreView) (call : Call) → IsStore s → refusal s call ≡ None → (all_handles (store_then s call).table.entries ≡ handles_then (all_handles s.table.entries) call) × (length (store_then s call).table.entries ≡ spans_then (length s.table.entries) call)
 numbers_done s (Add parent bits word) w h =
     let a = adds s parent bits word w h in
@@ -87,16 +73,16 @@ numbers_done s (Release id) w h =
 numbers_done s (Ended id) w h =
     let a = takes s id h in
     let v = total-without_entry s.table.entries id a.0 w.apart a.1.found in
-    let l = length-taken s.table.entries id a.0 w.apart a.1.found in
+    let l = length-without_entry s.table.entries id w.apart (there_is (find s.table.entries id) a.0 a.1.found) in
     (rw a.1.entries (omega (arith, v, a.1.handles)), rw a.1.entries (omega (arith, l)))
 
 pub numbers : (s : StoreView) (call : Call) → IsStore s → refusal s call ≡ None → (all_handles (store_after s call).table.entries ≡ handles_then (all_handles s.table.entries) call) × (length (store_after s call).table.entries ≡ spans_then (length s.table.entries) call)
 numbers s call w h = rw (after_accepted s call h) (numbers_done s call w h)
 
 pub bounded : (t : Table Entry) (max_count handles id : ℕ) → IsConsistent t max_count handles → count (spans_of t.entries) id ≤ max_count
-bounded t max_count handles id w = go (value_at t.entries id) refl
+bounded t max_count handles id w = go (find t.entries id) refl
   where
-    go : (o : Option Entry) → value_at t.entries id ≡ o → count (spans_of t.entries) id ≤ max_count
+    go : (o : Option Entry) → find t.entries id ≡ o → count (spans_of t.entries) id ≤ max_count
     go None e =
         let a = ap handles_if_there (no_span_at t.entries id e) in
         let z = no_children (spans_of t.entries) id (apart-spans t.entries w.apart) w.forest (no_span_at t.entries id e) in
@@ -127,7 +113,7 @@ counted_done s (Release id) w h =
 counted_done s (Ended id) w h =
     let n = numbers_done s (Ended id) w h in
     let a = takes s id h in
-    let l = length-taken s.table.entries id a.0 w.apart a.1.found in
+    let l = length-without_entry s.table.entries id w.apart (there_is (find s.table.entries id) a.0 a.1.found) in
     (omega (arith, n.1, l), omega (arith, n.0))
 
 counted_after : (s : StoreView) (call : Call) → IsStore s → (length (store_after s call).table.entries + one_of is_ended s call ≡ length s.table.entries + one_of is_add s call) × (all_handles (store_after s call).table.entries + one_of is_release s call ≡ all_handles s.table.entries + (one_of is_add s call + one_of is_keep s call))

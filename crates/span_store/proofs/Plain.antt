@@ -4,33 +4,33 @@ use Rattle.std.specs.Option.{option_map}
 use Rattle.std.proofs.lemmas.Bool.{cases_Bool}
 use Rattle.std.proofs.lemmas.Bool.Decides.{eqb_tells}
 use Rattle.span_id.specs.Id.{slot_of}
-use Rattle.span_slots.specs.Table.{Table, value_at, with_entry, without_entry, with_value, next_slot, table_removed}
+use Rattle.span_slots.specs.Table.{Table, find, with_entry, without_entry, with_value, next_slot, table_removed, AreApart}
 use Rattle.span_slots.specs.Change.{Insert, Remove, Write, after}
 use Rattle.span_slots.proofs.Issued.{IsKept, AreIssued}
 use Rattle.span_store.specs.declared.entry.Entry.{Entry}
 use Rattle.span_store.specs.StoredSpan.{plain_entry}
-use Rattle.span_store.specs.inside.Invariant.{spans_of, span_table, AreApart}
-use Rattle.span_store.proofs.Maps.{with_value_absent}
+use Rattle.span_store.specs.inside.Invariant.{spans_of, span_table}
+use Rattle.span_slots.proofs.Apart.{with_value_absent}
 
-pub value_at-spans : (es : List (ℕ × Entry)) (id : ℕ) → value_at (spans_of es) id ≡ option_map plain_entry (value_at es id)
-value_at-spans [] id = refl
-value_at-spans (e ∷ es) id =
-    let r = value_at-spans es id in
+pub find-spans : (es : List (ℕ × Entry)) (id : ℕ) → find (spans_of es) id ≡ option_map plain_entry (find es id)
+find-spans [] id = refl
+find-spans (e ∷ es) id =
+    let r = find-spans es id in
     elim (eqb_tells e.0 id) [ inl t ↦ rw t.0 refl | inr t ↦ rw t.0 r ]
 
-pub span_at : (es : List (ℕ × Entry)) (id : ℕ) (entry : Entry) → value_at es id ≡ Some entry → value_at (spans_of es) id ≡ Some (plain_entry entry)
-span_at es id entry h = value_at-spans es id ∙ ap (option_map plain_entry) h
+pub span_at : (es : List (ℕ × Entry)) (id : ℕ) (entry : Entry) → find es id ≡ Some entry → find (spans_of es) id ≡ Some (plain_entry entry)
+span_at es id entry h = find-spans es id ∙ ap (option_map plain_entry) h
 
-pub no_span_at : (es : List (ℕ × Entry)) (id : ℕ) → value_at es id ≡ None → value_at (spans_of es) id ≡ None
-no_span_at es id h = value_at-spans es id ∙ ap (option_map plain_entry) h
+pub no_span_at : (es : List (ℕ × Entry)) (id : ℕ) → find es id ≡ None → find (spans_of es) id ≡ None
+no_span_at es id h = find-spans es id ∙ ap (option_map plain_entry) h
 
 entry_in : (o : Option Entry) → IsSome (option_map plain_entry o) → (entry : Entry) × (o ≡ Some entry)
 entry_in None h = cc
 entry_in (Some entry) h = (entry, refl)
 
 -- a span that is there has an entry
-pub entry_at : (es : List (ℕ × Entry)) (id : ℕ) → IsSome (value_at (spans_of es) id) → (entry : Entry) × (value_at es id ≡ Some entry)
-entry_at es id h = entry_in (value_at es id) (subst IsSome (value_at-spans es id) h)
+pub entry_at : (es : List (ℕ × Entry)) (id : ℕ) → IsSome (find (spans_of es) id) → (entry : Entry) × (find es id ≡ Some entry)
+entry_at es id h = entry_in (find es id) (subst IsSome (find-spans es id) h)
 
 pub spans-with_entry : (es : List (ℕ × Entry)) (id : ℕ) (entry : Entry) → spans_of (with_entry es id entry) ≡ with_entry (spans_of es) id (plain_entry entry)
 spans-with_entry [] id entry = refl
@@ -54,11 +54,11 @@ spans-with_value (e ∷ es) id entry =
     ]
 
 -- where the new entry stands for the same span, the spans stay as they are
-pub spans_same : (es : List (ℕ × Entry)) (id : ℕ) (entry new : Entry) → AreApart es → value_at es id ≡ Some entry → plain_entry new ≡ plain_entry entry → spans_of (with_value es id new) ≡ spans_of es
+pub spans_same : (es : List (ℕ × Entry)) (id : ℕ) (entry new : Entry) → AreApart es → find es id ≡ Some entry → plain_entry new ≡ plain_entry entry → spans_of (with_value es id new) ≡ spans_of es
 spans_same [] id entry new a h k = refl
 spans_same (e ∷ es) id entry new a h k =
     elim (eqb_tells e.0 id) [
-      | inl t ↦ (let none : value_at es id ≡ None = rw t.1 at a.0 in
+      | inl t ↦ (let none : find es id ≡ None = rw t.1 at a.0 in
           let h2 = rw t.0 at h in
           let same : e.1 ≡ entry = cc in
           let k2 : plain_entry new ≡ plain_entry e.1 = k ∙ ap plain_entry (sym same) in
@@ -95,9 +95,9 @@ spans-inserted t entry = go (next_slot t) refl
     go (Some s) e = rw (e, spans-with_entry) refl
 
 pub spans-removed : (t : Table Entry) (id : ℕ) → span_table (table_removed t id) ≡ after (span_table t) (Remove id)
-spans-removed t id = go (value_at t.entries id) refl
+spans-removed t id = go (find t.entries id) refl
   where
-    go : (o : Option Entry) → value_at t.entries id ≡ o → span_table (table_removed t id) ≡ after (span_table t) (Remove id)
+    go : (o : Option Entry) → find t.entries id ≡ o → span_table (table_removed t id) ≡ after (span_table t) (Remove id)
     go None e = rw (e, no_span_at t.entries id e) refl
     go (Some entry) e = rw (e, span_at t.entries id entry e, spans-without_entry t.entries id) refl
 

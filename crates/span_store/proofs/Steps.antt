@@ -4,7 +4,7 @@ use Rattle.std.proofs.lemmas.Bool.{cases_Bool, eqb-true, false≢true}
 use borrow.Author.Tests.{ltb-true}
 use Rattle.span_id.specs.declared.fault.Fault.{Fault}
 use Rattle.span_id.specs.declared.fault.Fault.TheVariants.{Unknown, CountFull, Full}
-use Rattle.span_slots.specs.Table.{Table, value_at, with_entry, without_entry, with_value, next_id, next_slot, id_at, table_removed}
+use Rattle.span_slots.specs.Table.{Table, find, with_entry, without_entry, with_value, next_id, next_slot, id_at, table_removed, AreApart}
 use Rattle.span_slots.specs.Change.{Insert, Remove, Write, after}
 use Rattle.span_slots.proofs.Issued.{IsKept, IsKept-after}
 use Rattle.span_slots.proofs.Promises.{next_absent}
@@ -12,8 +12,9 @@ use Rattle.span_store.specs.StoredSpan.{StoredSpan, added_span, with_handles}
 use Rattle.span_store.specs.StoredSpans.{StoredSpans, children_there, count, handles_if_there, handles_of, is_still_held, is_closing, IsClosing, IsStillHeld}
 use Rattle.span_store.specs.Store.{StoreView}
 use Rattle.span_store.specs.Calls.{Call, Add, Keep, Release, Ended, refusal, no_more, no_child, store_then, store_after, handles_set}
-use Rattle.span_store.specs.inside.Invariant.{AreApart, IsForest}
-use Rattle.span_store.proofs.Maps.{apart-with_entry, apart-without_entry, apart-with_value, is_there, there_is}
+use Rattle.span_store.specs.inside.Invariant.{IsForest}
+use Rattle.span_slots.proofs.Apart.{AreApart-with_entry, AreApart-without_entry, AreApart-with_value}
+use Rattle.span_store.proofs.Maps.{is_there, there_is}
 use Rattle.span_store.proofs.Forests.{forest-with_entry, forest-without_entry, forest-with_value}
 use Rattle.span_store.proofs.Views.{after_accepted, after_refused}
 
@@ -29,30 +30,30 @@ both false b h = absurd (false≢true h)
 
 -- an open span and a closing one, taken apart
 pub record IsFound (spans : StoredSpans) (id : ℕ) (span : StoredSpan) : Type 0 where
-  pub found : value_at spans id ≡ Some span
+  pub found : find spans id ≡ Some span
   pub is_count : count spans id ≡ span.handles + children_there spans id
 
-pub found : (spans : StoredSpans) (id : ℕ) → IsSome (value_at spans id) → (span : StoredSpan) × IsFound spans id span
+pub found : (spans : StoredSpans) (id : ℕ) → IsSome (find spans id) → (span : StoredSpan) × IsFound spans id span
 found spans id h =
-    let s = is_there (value_at spans id) h in
+    let s = is_there (find spans id) h in
     (s.0, record { found = s.1; is_count = ap (λ o. handles_if_there o + children_there spans id) s.1 })
 
-pub closing_parts : (spans : StoredSpans) (id : ℕ) → IsClosing spans id → (span : StoredSpan) × (value_at spans id ≡ Some span) × (span.handles ≡ 0) × (children_there spans id ≡ 0)
+pub closing_parts : (spans : StoredSpans) (id : ℕ) → IsClosing spans id → (span : StoredSpan) × (find spans id ≡ Some span) × (span.handles ≡ 0) × (children_there spans id ≡ 0)
 closing_parts spans id h =
-    let b = both (is_some (value_at spans id)) (eqb (count spans id) 0) h in
+    let b = both (is_some (find spans id)) (eqb (count spans id) 0) h in
     let s = found spans id b.0 in
     let z = eqb-true (count spans id) 0 b.1 in
     let c = s.1.is_count in
     (s.0, s.1.found, omega (arith, z, c), omega (arith, z, c))
 
-pub closing_from : (spans : StoredSpans) (id : ℕ) (span : StoredSpan) → value_at spans id ≡ Some span → span.handles ≡ 0 → children_there spans id ≡ 0 → IsClosing spans id
+pub closing_from : (spans : StoredSpans) (id : ℕ) (span : StoredSpan) → find spans id ≡ Some span → span.handles ≡ 0 → children_there spans id ≡ 0 → IsClosing spans id
 closing_from spans id span h z k =
     let c : count spans id ≡ 0 = (let a = ap handles_if_there h in omega (arith, a, z, k)) in
     rw (h, (rw h at c)) refl
 
-pub open_parts : (spans : StoredSpans) (id : ℕ) → IsStillHeld spans id → (span : StoredSpan) × (value_at spans id ≡ Some span) × (0 < span.handles + children_there spans id)
+pub open_parts : (spans : StoredSpans) (id : ℕ) → IsStillHeld spans id → (span : StoredSpan) × (find spans id ≡ Some span) × (0 < span.handles + children_there spans id)
 open_parts spans id h =
-    let b = both (is_some (value_at spans id)) (ltb 0 (count spans id)) h in
+    let b = both (is_some (find spans id)) (ltb 0 (count spans id)) h in
     let s = found spans id b.0 in
     let low = ltb-true 0 (count spans id) b.1 in
     let c = s.1.is_count in
@@ -92,13 +93,13 @@ may_end s id h =
 -- `add`: one span more, under an id that wasn't there
 pub record Adds (s new : StoreView) (parent : Option ℕ) (span : StoredSpan) (id : ℕ) : Type 0 where
   pub next : next_id s.table ≡ Some id
-  pub vacant : value_at s.table.entries id ≡ None
+  pub vacant : find s.table.entries id ≡ None
   pub entries : new.table.entries ≡ with_entry s.table.entries id span
   pub above : (p : ℕ) → parent ≡ Some p → IsStillHeld s.table.entries p
 
 -- `keep` and `release`: one span has other handles
 pub record Writes (s new : StoreView) (id : ℕ) (span changed : StoredSpan) : Type 0 where
-  pub found : value_at s.table.entries id ≡ Some span
+  pub found : find s.table.entries id ≡ Some span
   pub entries : new.table.entries ≡ with_value s.table.entries id changed
   pub parent : changed.parent ≡ span.parent
   pub bits : changed.bits ≡ span.bits
@@ -106,7 +107,7 @@ pub record Writes (s new : StoreView) (id : ℕ) (span changed : StoredSpan) : T
 
 -- `ended`: a span that nothing holds is taken out
 pub record Takes (s new : StoreView) (id : ℕ) (span : StoredSpan) : Type 0 where
-  pub found : value_at s.table.entries id ≡ Some span
+  pub found : find s.table.entries id ≡ Some span
   pub handles : span.handles ≡ 0
   pub children : children_there s.table.entries id ≡ 0
   pub entries : new.table.entries ≡ without_entry s.table.entries id
@@ -119,7 +120,7 @@ module _ {T : Type 0} where
       go None e = (let none : None ≡ Some id = rw e at h in cc)
       go (Some k) e = (let same = rw e at h in rw e (ap (λ x. with_entry t.entries x v) (let q : id_at t k ≡ id = cc in q)))
 
-  entries-removed : (t : Table T) (id : ℕ) (v : T) → value_at t.entries id ≡ Some v → (table_removed t id).entries ≡ without_entry t.entries id
+  entries-removed : (t : Table T) (id : ℕ) (v : T) → find t.entries id ≡ Some v → (table_removed t id).entries ≡ without_entry t.entries id
   entries-removed t id v h = rw h refl
 
 above_open : (s : StoreView) (parent : Option ℕ) → no_child s parent ≡ None → (p : ℕ) → parent ≡ Some p → IsStillHeld s.table.entries p
@@ -142,10 +143,10 @@ adds s parent bits word w h =
     )
 
 module _ (s : StoreView) (id : ℕ) (change : ℕ → ℕ) where
-  handles_set_is : (span : StoredSpan) → value_at s.table.entries id ≡ Some span → handles_set s id change (value_at s.table.entries id) ≡ record s { table = after s.table (Write id (with_handles (change span.handles) span)) }
+  handles_set_is : (span : StoredSpan) → find s.table.entries id ≡ Some span → handles_set s id change (find s.table.entries id) ≡ record s { table = after s.table (Write id (with_handles (change span.handles) span)) }
   handles_set_is span h = rw h refl
 
-  writes : (span : StoredSpan) → value_at s.table.entries id ≡ Some span → Writes s (handles_set s id change (value_at s.table.entries id)) id span (with_handles (change span.handles) span)
+  writes : (span : StoredSpan) → find s.table.entries id ≡ Some span → Writes s (handles_set s id change (find s.table.entries id)) id span (with_handles (change span.handles) span)
   writes span h = record {
     found = h;
     entries = ap (λ (x : StoreView). x.table.entries) (handles_set_is span h);
@@ -166,7 +167,7 @@ held_there (Some span) h = (span, refl, h)
 
 pub releases : (s : StoreView) (id : ℕ) → refusal s (Release id) ≡ None → (span : StoredSpan) × Writes s (store_then s (Release id)) id span (with_handles (span.handles - 1) span) × (0 < span.handles)
 releases s id h =
-    let o = held_there (value_at s.table.entries id) (may_be_released s id h) in
+    let o = held_there (find s.table.entries id) (may_be_released s id h) in
     (o.0, writes s id (λ handles. handles - 1) o.0 o.1, o.2)
 
 pub takes : (s : StoreView) (id : ℕ) → refusal s (Ended id) ≡ None → (span : StoredSpan) × Takes s (store_then s (Ended id)) id span
@@ -177,12 +178,12 @@ takes s id h =
 -- every call leaves a store
 kept-store_then : (s : StoreView) (call : Call) → IsKept s.table → IsKept (store_then s call).table
 kept-store_then s (Add parent bits word) k = IsKept-after s.table (Insert (added_span parent bits word)) k
-kept-store_then s (Keep id) k = go (value_at s.table.entries id)
+kept-store_then s (Keep id) k = go (find s.table.entries id)
   where
     go : (o : Option StoredSpan) → IsKept (handles_set s id (λ handles. handles + 1) o).table
     go None = k
     go (Some span) = IsKept-after s.table (Write id (with_handles (span.handles + 1) span)) k
-kept-store_then s (Release id) k = go (value_at s.table.entries id)
+kept-store_then s (Release id) k = go (find s.table.entries id)
   where
     go : (o : Option StoredSpan) → IsKept (handles_set s id (λ handles. handles - 1) o).table
     go None = k
@@ -192,21 +193,21 @@ kept-store_then s (Ended id) k = IsKept-after s.table (Remove id) k
 store-added : (s new : StoreView) (parent : Option ℕ) (span : StoredSpan) (id : ℕ) → IsStore s → IsKept new.table → span.parent ≡ parent → Adds s new parent span id → IsStore new
 store-added s new parent span id w k e a = record {
   kept = k;
-  apart = subst AreApart (sym a.entries) (apart-with_entry s.table.entries id span a.vacant w.apart);
-  forest = subst IsForest (sym a.entries) (forest-with_entry s.table.entries id span a.vacant (λ p h. (let o = open_parts s.table.entries p (a.above p (sym e ∙ h)) in there_is (value_at s.table.entries p) o.0 o.1)) w.forest);
+  apart = subst AreApart (sym a.entries) (AreApart-with_entry s.table.entries id span a.vacant w.apart);
+  forest = subst IsForest (sym a.entries) (forest-with_entry s.table.entries id span a.vacant (λ p h. (let o = open_parts s.table.entries p (a.above p (sym e ∙ h)) in there_is (find s.table.entries p) o.0 o.1)) w.forest);
 }
 
 store-written : (s new : StoreView) (id : ℕ) (span changed : StoredSpan) → IsStore s → IsKept new.table → Writes s new id span changed → IsStore new
 store-written s new id span changed w k a = record {
   kept = k;
-  apart = subst AreApart (sym a.entries) (apart-with_value s.table.entries id changed w.apart);
+  apart = subst AreApart (sym a.entries) (AreApart-with_value s.table.entries id changed w.apart);
   forest = subst IsForest (sym a.entries) (forest-with_value s.table.entries id span changed a.found a.parent w.forest);
 }
 
 store-taken : (s new : StoreView) (id : ℕ) (span : StoredSpan) → IsStore s → IsKept new.table → Takes s new id span → IsStore new
 store-taken s new id span w k a = record {
   kept = k;
-  apart = subst AreApart (sym a.entries) (apart-without_entry s.table.entries id w.apart);
+  apart = subst AreApart (sym a.entries) (AreApart-without_entry s.table.entries id w.apart);
   forest = subst IsForest (sym a.entries) (forest-without_entry s.table.entries id a.children w.forest);
 }
 

@@ -7,17 +7,17 @@ use Rattle.std.proofs.lemmas.Bool.{eq-eqb, ne_eqb}
 use Rattle.std.proofs.lemmas.List.Elements.{All-cons, All-nil, All-map, All-weaker}
 use Rattle.std.proofs.lemmas.List.Kept.{AllPairs-cons}
 use Rattle.span_id.specs.Id.{slot_of}
-use Rattle.span_slots.specs.Table.{value_at}
+use Rattle.span_slots.specs.Table.{find, AreApart, all_ids}
 use Rattle.span_store.specs.declared.entry.Entry.{Entry}
 use Rattle.span_store.specs.declared.details.SpanDetails.{SpanDetails}
 use Rattle.span_store.specs.StoredSpan.{StoredSpan}
 use Rattle.span_store.specs.StoredSpans.{StoredSpans, IsThere, children_there, is_closing}
-use Rattle.span_store.specs.Details.{details_there, all_details, ids_there}
-use Rattle.span_store.specs.inside.Invariant.{spans_of, AreApart}
+use Rattle.span_store.specs.Details.{details_there, all_details}
+use Rattle.span_store.specs.inside.Invariant.{spans_of}
 use Rattle.span_store.proofs.Maps.{not_none, some_same}
 use Rattle.span_store.proofs.Steps.{closing_parts, closing_from}
 
-ids_told : (all spans : StoredSpans) → map (λ told. told.id) (map (details_there all) spans) ≡ ids_there spans
+ids_told : (all spans : StoredSpans) → map (λ told. told.id) (map (details_there all) spans) ≡ all_ids spans
 ids_told all [] = refl
 ids_told all (e ∷ es) = ap (λ v. e.0 ∷ v) (ids_told all es)
 
@@ -38,23 +38,23 @@ contains_cons : (x y : ℕ) (xs : List ℕ) → Contains (y ∷ xs) x → (y ≡
 contains_cons x y xs (zero, low, is) = inl is
 contains_cons x y xs (suc k, low, is) = inr (k, omega (arith, low), is)
 
-listed_there : (spans : StoredSpans) (id : ℕ) → Contains (ids_there spans) id → IsThere spans id
+listed_there : (spans : StoredSpans) (id : ℕ) → Contains (all_ids spans) id → IsThere spans id
 listed_there [] id c = (let low = c.1 in absurd (omega (arith, low)))
 listed_there (e ∷ es) id c =
     elim (eqb_tells e.0 id) [
       | inl t ↦ rw t.0 refl
-      | inr t ↦ elim (contains_cons id e.0 (ids_there es) c) [
+      | inr t ↦ elim (contains_cons id e.0 (all_ids es) c) [
         | inl q ↦ absurd (t.1 q)
         | inr r ↦ rw t.0 (listed_there es id r)
       ]
     ]
 
-there_listed : (spans : StoredSpans) (id : ℕ) → IsThere spans id → Contains (ids_there spans) id
+there_listed : (spans : StoredSpans) (id : ℕ) → IsThere spans id → Contains (all_ids spans) id
 there_listed [] id o = cc
 there_listed (e ∷ es) id o =
     elim (eqb_tells e.0 id) [
-      | inl t ↦ subst (λ x. Contains (ids_there (e ∷ es)) x) t.1 (contains_first e.0 (ids_there es))
-      | inr t ↦ contains_later id e.0 (ids_there es) (there_listed es id (rw t.0 at o))
+      | inl t ↦ subst (λ x. Contains (all_ids (e ∷ es)) x) t.1 (contains_first e.0 (all_ids es))
+      | inr t ↦ contains_later id e.0 (all_ids es) (there_listed es id (rw t.0 at o))
     ]
 
 pub told_there : (spans : StoredSpans) (id : ℕ) → Contains (map (λ told. told.id) (all_details spans)) id ↔ IsThere spans id
@@ -62,7 +62,7 @@ told_there spans id = rw (ids_told spans spans) (listed_there spans id, there_li
 
 -- ---- no id is told twice
 
-absent : (spans : StoredSpans) (id : ℕ) → value_at spans id ≡ None → All (λ e. id ≢ e.0) spans
+absent : (spans : StoredSpans) (id : ℕ) → find spans id ≡ None → All (λ e. id ≢ e.0) spans
 absent [] id none = All-nil (λ (e : ℕ × StoredSpan). id ≢ e.0)
 absent (e ∷ es) id none =
     elim (eqb_tells e.0 id) [
@@ -80,17 +80,17 @@ told_apart spans a = apart_told spans spans a
 
 -- ---- which are closing
 
-entries_found : (spans : StoredSpans) → AreApart spans → All (λ e. value_at spans e.0 ≡ Some e.1) spans
-entries_found [] a = All-nil (λ (e : ℕ × StoredSpan). value_at [] e.0 ≡ Some e.1)
+entries_found : (spans : StoredSpans) → AreApart spans → All (λ e. find spans e.0 ≡ Some e.1) spans
+entries_found [] a = All-nil (λ (e : ℕ × StoredSpan). find [] e.0 ≡ Some e.1)
 entries_found (e ∷ es) a =
-    let more : (x : ℕ × StoredSpan) → value_at es x.0 ≡ Some x.1 → value_at (e ∷ es) x.0 ≡ Some x.1 = λ x h. (
-    let ne : e.0 ≢ x.0 = λ q. not_none (value_at es x.0) x.1 h (rw (← q) a.0) in
+    let more : (x : ℕ × StoredSpan) → find es x.0 ≡ Some x.1 → find (e ∷ es) x.0 ≡ Some x.1 = λ x h. (
+    let ne : e.0 ≢ x.0 = λ q. not_none (find es x.0) x.1 h (rw (← q) a.0) in
     rw (ne_eqb e.0 x.0 ne) h) in
-    All-cons (λ (x : ℕ × StoredSpan). value_at (e ∷ es) x.0 ≡ Some x.1) e es (rw (eq-eqb e.0 e.0 refl) refl) (All-weaker (λ (x : ℕ × StoredSpan). value_at es x.0 ≡ Some x.1) (λ (x : ℕ × StoredSpan). value_at (e ∷ es) x.0 ≡ Some x.1) more es (entries_found es a.1))
+    All-cons (λ (x : ℕ × StoredSpan). find (e ∷ es) x.0 ≡ Some x.1) e es (rw (eq-eqb e.0 e.0 refl) refl) (All-weaker (λ (x : ℕ × StoredSpan). find es x.0 ≡ Some x.1) (λ (x : ℕ × StoredSpan). find (e ∷ es) x.0 ≡ Some x.1) more es (entries_found es a.1))
 
-closing_one : (spans : StoredSpans) (id : ℕ) (span : StoredSpan) → value_at spans id ≡ Some span → IsTrue (is_closing spans id) ↔ ((span.handles ≡ 0) × (children_there spans id ≡ 0))
-closing_one spans id span h = (λ c. (let p = closing_parts spans id c in let same = some_same (value_at spans id) p.0 span p.1 h in (sym (ap (λ (n : StoredSpan). n.handles) same) ∙ p.2, p.3)), λ z. closing_from spans id span h z.0 z.1)
+closing_one : (spans : StoredSpans) (id : ℕ) (span : StoredSpan) → find spans id ≡ Some span → IsTrue (is_closing spans id) ↔ ((span.handles ≡ 0) × (children_there spans id ≡ 0))
+closing_one spans id span h = (λ c. (let p = closing_parts spans id c in let same = some_same (find spans id) p.0 span p.1 h in (sym (ap (λ (n : StoredSpan). n.handles) same) ∙ p.2, p.3)), λ z. closing_from spans id span h z.0 z.1)
 
 pub told_closing : (spans : StoredSpans) → AreApart spans → All (λ told. IsTrue told.closing ↔ ((told.handles ≡ 0) × (told.children ≡ 0))) (all_details spans)
 told_closing spans a =
-    All-map (λ (told : SpanDetails). IsTrue told.closing ↔ ((told.handles ≡ 0) × (told.children ≡ 0))) (details_there spans) spans (All-weaker (λ (e : ℕ × StoredSpan). value_at spans e.0 ≡ Some e.1) (λ (e : ℕ × StoredSpan). IsTrue (is_closing spans e.0) ↔ ((e.1.handles ≡ 0) × (children_there spans e.0 ≡ 0))) (λ e h. closing_one spans e.0 e.1 h) spans (entries_found spans a))
+    All-map (λ (told : SpanDetails). IsTrue told.closing ↔ ((told.handles ≡ 0) × (told.children ≡ 0))) (details_there spans) spans (All-weaker (λ (e : ℕ × StoredSpan). find spans e.0 ≡ Some e.1) (λ (e : ℕ × StoredSpan). IsTrue (is_closing spans e.0) ↔ ((e.1.handles ≡ 0) × (children_there spans e.0 ≡ 0))) (λ e h. closing_one spans e.0 e.1 h) spans (entries_found spans a))

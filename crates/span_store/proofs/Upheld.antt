@@ -2,15 +2,16 @@
 use Rattle.std.proofs.Common.{◌≡◌, ◌≢◌, ℕ, ◌+◌, ◌*◌, ◌^◌, ◌<◌, ◌≤◌, List, [], ◌∷◌, length, Some, refl, sym, ap, ◌∙◌, inl, inr, arith}
 use Rattle.std.proofs.lemmas.Bool.{eq-eqb, ne_eqb}
 use Rattle.std.proofs.lemmas.Bool.Decides.{eqb_tells}
-use Rattle.span_slots.specs.Table.{Table, value_at, without_entry, with_value}
+use Rattle.span_slots.specs.Table.{Table, find, without_entry, with_value, AreApart}
 use Rattle.span_slots.specs.Change.{Write, after}
 use Rattle.span_slots.proofs.Issued.{IsKept-after}
-use Rattle.span_slots.proofs.Entries.{value_at-with_value_same, value_at-with_value_other}
+use Rattle.span_slots.proofs.Entries.{find-with_value_same, find-with_value_other}
 use Rattle.span_store.specs.declared.entry.Entry.{Entry}
 use Rattle.span_store.specs.StoredSpan.{StoredSpan, plain_entry}
 use Rattle.span_store.specs.StoredSpans.{StoredSpans, children_there, all_handles}
-use Rattle.span_store.specs.inside.Invariant.{spans_of, AreApart, AreBounded, IsConsistent}
-use Rattle.span_store.proofs.Maps.{apart-with_value, some_same, not_none, there_is}
+use Rattle.span_store.specs.inside.Invariant.{spans_of, AreBounded, IsConsistent}
+use Rattle.span_slots.proofs.Apart.{AreApart-with_value}
+use Rattle.span_store.proofs.Maps.{some_same, not_none, there_is}
 use Rattle.span_store.proofs.Counts.{children_there-with_value, total-with_value}
 use Rattle.span_store.proofs.Forests.{forest-with_value}
 use Rattle.span_store.proofs.Plain.{span_at, spans-with_value, apart-spans}
@@ -46,31 +47,31 @@ length-without_entry (e ∷ es) id =
 
 -- an entry with other handles, and its parent and its children as they were
 module _ (t : Table Entry) (id : ℕ) (entry new : Entry) where
-  pub IsConsistent-handles : (max_count handles handles2 : ℕ) → IsConsistent t max_count handles → value_at t.entries id ≡ Some entry → new.parent ≡ entry.parent → new.children ≡ entry.children → new.handles + new.children ≤ max_count → handles2 + entry.handles ≡ handles + new.handles → IsConsistent (after t (Write id new)) max_count handles2
+  pub IsConsistent-handles : (max_count handles handles2 : ℕ) → IsConsistent t max_count handles → find t.entries id ≡ Some entry → new.parent ≡ entry.parent → new.children ≡ entry.children → new.handles + new.children ≤ max_count → handles2 + entry.handles ≡ handles + new.handles → IsConsistent (after t (Write id new)) max_count handles2
   IsConsistent-handles max_count handles handles2 w h p k high total =
       let spans = spans-with_value t.entries id new in
       let span = span_at t.entries id entry h in
       let apart = apart-spans t.entries w.apart in
-      let there = there_is (value_at t.entries id) entry h in
+      let there = there_is (find t.entries id) entry h in
       let kids : (j : ℕ) → children_there (spans_of (with_value t.entries id new)) j ≡ children_there (spans_of t.entries) j = λ j. rw spans (children_there-with_value (spans_of t.entries) id j (plain_entry entry) (plain_entry new) apart span p) in
       record {
         kept = IsKept-after t (Write id new) w.kept;
-        apart = apart-with_value t.entries id new w.apart;
+        apart = AreApart-with_value t.entries id new w.apart;
         counted = λ j x f. (elim (eqb_tells j id) [
-          | inl q ↦ (let same = some_same (value_at (with_value t.entries id new) j) x new f (rw q.1 (value_at-with_value_same t.entries id new there)) in
+          | inl q ↦ (let same = some_same (find (with_value t.entries id new) j) x new f (rw q.1 (find-with_value_same t.entries id new there)) in
               let c = w.counted id entry h in
               let mine : x.children ≡ new.children = ap (λ (z : Entry). z.children) same in
               let here : children_there (spans_of t.entries) j ≡ children_there (spans_of t.entries) id = ap (children_there (spans_of t.entries)) q.1 in
               omega (arith, kids j, c, mine, here, k))
-          | inr q ↦ (let c = w.counted j x (sym (value_at-with_value_other t.entries id j new (λ z. q.1 (sym z))) ∙ f) in
+          | inr q ↦ (let c = w.counted j x (sym (find-with_value_other t.entries id j new q.1) ∙ f) in
               omega (arith, kids j, c))
         ]);
         bounded = λ j x f. (elim (eqb_tells j id) [
-          | inl q ↦ (let same = some_same (value_at (with_value t.entries id new) j) x new f (rw q.1 (value_at-with_value_same t.entries id new there)) in
+          | inl q ↦ (let same = some_same (find (with_value t.entries id new) j) x new f (rw q.1 (find-with_value_same t.entries id new there)) in
               let mine : x.children ≡ new.children = ap (λ (z : Entry). z.children) same in
               let held : x.handles ≡ new.handles = ap (λ (z : Entry). z.handles) same in
               omega (arith, mine, held, high))
-          | inr q ↦ w.bounded j x (sym (value_at-with_value_other t.entries id j new (λ z. q.1 (sym z))) ∙ f)
+          | inr q ↦ w.bounded j x (sym (find-with_value_other t.entries id j new q.1) ∙ f)
         ]);
         forest = rw spans (forest-with_value (spans_of t.entries) id (plain_entry entry) (plain_entry new) span p w.forest);
         handles_is = (let v = total-with_value (spans_of t.entries) id (plain_entry entry) (plain_entry new) apart span in
@@ -87,7 +88,7 @@ total_le [] max_count a b m = omega arith
 total_le (e ∷ es) max_count a b m =
     let first = b e.0 e.1 (rw (eq-eqb e.0 e.0 refl) refl) in
     let rest = total_le es max_count a.1 (λ id entry h. b id entry (
-    let ne : e.0 ≢ id = λ q. not_none (value_at es id) entry h (rw (← q) a.0) in
+    let ne : e.0 ≢ id = λ q. not_none (find es id) entry h (rw (← q) a.0) in
     rw (ne_eqb e.0 id ne) h)) m in
     omega arith
 
@@ -98,7 +99,7 @@ handles_fit t max_count handles w =
     let is = w.handles_is in
     omega arith
 
-handles_le_total : (spans : StoredSpans) (id : ℕ) (span : StoredSpan) → value_at spans id ≡ Some span → span.handles ≤ all_handles spans
+handles_le_total : (spans : StoredSpans) (id : ℕ) (span : StoredSpan) → find spans id ≡ Some span → span.handles ≤ all_handles spans
 handles_le_total [] id span h = cc
 handles_le_total (e ∷ es) id span h =
     elim (eqb_tells e.0 id) [
@@ -109,7 +110,7 @@ handles_le_total (e ∷ es) id span h =
       | inr q ↦ (let r = handles_le_total es id span (rw q.0 at h) in omega arith)
     ]
 
-pub handles_enough : (t : Table Entry) (max_count handles id : ℕ) (entry : Entry) → IsConsistent t max_count handles → value_at t.entries id ≡ Some entry → entry.handles ≤ handles
+pub handles_enough : (t : Table Entry) (max_count handles id : ℕ) (entry : Entry) → IsConsistent t max_count handles → find t.entries id ≡ Some entry → entry.handles ≤ handles
 handles_enough t max_count handles id entry w h =
     let le = handles_le_total (spans_of t.entries) id (plain_entry entry) (span_at t.entries id entry h) in
     let is = w.handles_is in

@@ -5,7 +5,7 @@ use Rattle.std.specs.Option.{IsSomeAnd}
 use Rattle.std.proofs.lemmas.Bool.{lt-ltb, le-ltb, eq-eqb, ne_eqb, false≢true}
 use Rattle.span_id.specs.declared.fault.Fault.{Fault}
 use Rattle.span_id.specs.declared.fault.Fault.TheVariants.{Unknown, Full}
-use Rattle.span_slots.specs.Table.{Table, value_at, next_id}
+use Rattle.span_slots.specs.Table.{Table, find, next_id}
 use Rattle.span_store.specs.declared.entry.Entry.{Entry}
 use Rattle.span_slots.specs.Change.{Insert, after}
 use Rattle.span_store.specs.StoredSpan.{StoredSpan, added_span}
@@ -20,27 +20,27 @@ use Rattle.span_store.proofs.Plain.{span_at, no_span_at}
 abbrev pub view_of : Table Entry → ℕ → StoreView
 view_of t max_count = record { table = span_table t; max_count = max_count }
 
-pub count_at : (es : List (ℕ × Entry)) (id : ℕ) (entry : Entry) → AreCounted es → value_at es id ≡ Some entry → count (spans_of es) id ≡ entry.handles + entry.children
+pub count_at : (es : List (ℕ × Entry)) (id : ℕ) (entry : Entry) → AreCounted es → find es id ≡ Some entry → count (spans_of es) id ≡ entry.handles + entry.children
 count_at es id entry w h =
     let a = ap handles_if_there (span_at es id entry h) in
     let b = w id entry h in
     omega arith
 
-pub is_still_held-at : (es : List (ℕ × Entry)) (id : ℕ) (entry : Entry) → AreCounted es → value_at es id ≡ Some entry → is_still_held (spans_of es) id ≡ ltb 0 (entry.handles + entry.children)
+pub is_still_held-at : (es : List (ℕ × Entry)) (id : ℕ) (entry : Entry) → AreCounted es → find es id ≡ Some entry → is_still_held (spans_of es) id ≡ ltb 0 (entry.handles + entry.children)
 is_still_held-at es id entry w h =
     let n = count_at es id entry w h in
     rw (span_at es id entry h) (ap (λ x. ltb 0 x) (rw (span_at es id entry h) at n))
 
-pub is_closing-at : (es : List (ℕ × Entry)) (id : ℕ) (entry : Entry) → AreCounted es → value_at es id ≡ Some entry → is_closing (spans_of es) id ≡ eqb (entry.handles + entry.children) 0
+pub is_closing-at : (es : List (ℕ × Entry)) (id : ℕ) (entry : Entry) → AreCounted es → find es id ≡ Some entry → is_closing (spans_of es) id ≡ eqb (entry.handles + entry.children) 0
 is_closing-at es id entry w h =
     let n = count_at es id entry w h in
     rw (span_at es id entry h) (ap (λ x. eqb x 0) (rw (span_at es id entry h) at n))
 
 -- one more handle or child
-pub no_more-at : (t : Table Entry) (max_count id : ℕ) → AreCounted t.entries → no_more (view_of t max_count) id ≡ no_more_at max_count (value_at t.entries id)
-no_more-at t max_count id w = go (value_at t.entries id) refl
+pub no_more-at : (t : Table Entry) (max_count id : ℕ) → AreCounted t.entries → no_more (view_of t max_count) id ≡ no_more_at max_count (find t.entries id)
+no_more-at t max_count id w = go (find t.entries id) refl
   where
-    go : (o : Option Entry) → value_at t.entries id ≡ o → no_more (view_of t max_count) id ≡ no_more_at max_count (value_at t.entries id)
+    go : (o : Option Entry) → find t.entries id ≡ o → no_more (view_of t max_count) id ≡ no_more_at max_count (find t.entries id)
     go None e = rw (e, no_span_at t.entries id e) refl
     go (Some entry) e =
         let o = is_still_held-at t.entries id entry w e in
@@ -51,8 +51,8 @@ room_none : (max_count : ℕ) (o : Option Entry) → HasRoom max_count o → no_
 room_none max_count None h = absurd h
 room_none max_count (Some entry) h = rw (lt-ltb 0 (entry.handles + entry.children) h.0, lt-ltb (entry.handles + entry.children) max_count h.1) refl
 
-pub no_more-room : (t : Table Entry) (max_count id : ℕ) → AreCounted t.entries → HasRoom max_count (value_at t.entries id) → no_more (view_of t max_count) id ≡ None
-no_more-room t max_count id w h = no_more-at t max_count id w ∙ room_none max_count (value_at t.entries id) h
+pub no_more-room : (t : Table Entry) (max_count id : ℕ) → AreCounted t.entries → HasRoom max_count (find t.entries id) → no_more (view_of t max_count) id ≡ None
+no_more-room t max_count id w h = no_more-at t max_count id w ∙ room_none max_count (find t.entries id) h
 
 pub no_child-at : (t : Table Entry) (max_count : ℕ) (parent : Option ℕ) → AreCounted t.entries → no_child (view_of t max_count) parent ≡ no_child_at max_count t.entries parent
 no_child-at t max_count None w = refl
@@ -93,25 +93,25 @@ no_next None h = refl
 no_next (Some id) h = absurd (false≢true (h refl))
 
 -- `release` and `ended`
-pub release_at : (t : Table Entry) (max_count id : ℕ) (entry : Entry) → value_at t.entries id ≡ Some entry → 0 < entry.handles → refusal (view_of t max_count) (Release id) ≡ None
+pub release_at : (t : Table Entry) (max_count id : ℕ) (entry : Entry) → find t.entries id ≡ Some entry → 0 < entry.handles → refusal (view_of t max_count) (Release id) ≡ None
 release_at t max_count id entry h low = rw (span_at t.entries id entry h, lt-ltb 0 entry.handles low) refl
 
-pub release_refused : (t : Table Entry) (max_count id : ℕ) → (IsSomeAnd (value_at t.entries id) (λ entry. 0 < entry.handles) → ⊥) → refusal (view_of t max_count) (Release id) ≡ Some Unknown
-release_refused t max_count id h = go (value_at t.entries id) refl
+pub release_refused : (t : Table Entry) (max_count id : ℕ) → (IsSomeAnd (find t.entries id) (λ entry. 0 < entry.handles) → ⊥) → refusal (view_of t max_count) (Release id) ≡ Some Unknown
+release_refused t max_count id h = go (find t.entries id) refl
   where
-    go : (o : Option Entry) → value_at t.entries id ≡ o → refusal (view_of t max_count) (Release id) ≡ Some Unknown
+    go : (o : Option Entry) → find t.entries id ≡ o → refusal (view_of t max_count) (Release id) ≡ Some Unknown
     go None e = rw (no_span_at t.entries id e) refl
     go (Some entry) e =
         let none : ltb 0 entry.handles ≡ false = le-ltb 0 entry.handles (let k = rw e at h in omega (arith, k)) in
         rw (span_at t.entries id entry e, none) refl
 
-pub ended_at : (t : Table Entry) (max_count id : ℕ) (entry : Entry) → AreCounted t.entries → value_at t.entries id ≡ Some entry → entry.handles + entry.children ≡ 0 → refusal (view_of t max_count) (Ended id) ≡ None
+pub ended_at : (t : Table Entry) (max_count id : ℕ) (entry : Entry) → AreCounted t.entries → find t.entries id ≡ Some entry → entry.handles + entry.children ≡ 0 → refusal (view_of t max_count) (Ended id) ≡ None
 ended_at t max_count id entry w h z = rw (is_closing-at t.entries id entry w h, eq-eqb (entry.handles + entry.children) 0 z) refl
 
-pub ended_refused : (t : Table Entry) (max_count id : ℕ) → AreCounted t.entries → (IsSomeAnd (value_at t.entries id) (λ entry. entry.handles + entry.children ≡ 0) → ⊥) → refusal (view_of t max_count) (Ended id) ≡ Some Unknown
-ended_refused t max_count id w h = go (value_at t.entries id) refl
+pub ended_refused : (t : Table Entry) (max_count id : ℕ) → AreCounted t.entries → (IsSomeAnd (find t.entries id) (λ entry. entry.handles + entry.children ≡ 0) → ⊥) → refusal (view_of t max_count) (Ended id) ≡ Some Unknown
+ended_refused t max_count id w h = go (find t.entries id) refl
   where
-    go : (o : Option Entry) → value_at t.entries id ≡ o → refusal (view_of t max_count) (Ended id) ≡ Some Unknown
+    go : (o : Option Entry) → find t.entries id ≡ o → refusal (view_of t max_count) (Ended id) ≡ Some Unknown
     go None e = rw (no_span_at t.entries id e) refl
     go (Some entry) e =
         let ne : eqb (entry.handles + entry.children) 0 ≡ false = ne_eqb (entry.handles + entry.children) 0 (rw e at h) in

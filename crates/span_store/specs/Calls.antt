@@ -3,7 +3,7 @@ use Rattle.std.specs.Prelude.{ℕ, ◌≢◌, ◌+◌, ◌-◌, Bool, true, fals
 use Rattle.std.specs.Option.{option_eq, option_or}
 use Rattle.span_id.specs.declared.fault.Fault.{Fault}
 use Rattle.span_id.specs.declared.fault.Fault.TheVariants.{Unknown, CountFull, Full}
-use Rattle.span_slots.specs.Table.{next_id, value_at}
+use Rattle.span_slots.specs.Table.{next_id, find}
 use Rattle.span_slots.specs.Change.{Insert, Remove, Write, after}
 use Rattle.span_store.specs.StoredSpan.{StoredSpan, added_span, with_handles}
 use Rattle.span_store.specs.StoredSpans.{StoredSpans, parent_there, handles_of, count, is_still_held, is_closing}
@@ -46,8 +46,8 @@ handles_set store id change (Some span) =
 abbrev pub store_then : StoreView → Call → StoreView
 store_then store (Add parent bits word) =
     record store { table = after store.table (Insert (added_span parent bits word)) }
-store_then store (Keep id) = handles_set store id (λ handles. handles + 1) (value_at store.table.entries id)
-store_then store (Release id) = handles_set store id (λ handles. handles - 1) (value_at store.table.entries id)
+store_then store (Keep id) = handles_set store id (λ handles. handles + 1) (find store.table.entries id)
+store_then store (Release id) = handles_set store id (λ handles. handles - 1) (find store.table.entries id)
 store_then store (Ended id) = record store { table = after store.table (Remove id) }
 
 -- the store after a call: where it is refused, nothing changes

@@ -19,7 +19,3 @@ details_there spans e = record {
 -- the same of each span that is there, by ascending slot
 abbrev pub all_details : StoredSpans → List SpanDetails
 all_details spans = map (details_there spans) spans
-
--- the ids that are there, by ascending slot
-abbrev pub ids_there : StoredSpans → List ℕ
-ids_there spans = map (λ e. e.0) spans

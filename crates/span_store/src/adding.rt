@@ -1,6 +1,6 @@
 ghost use Rattle.std.specs.Prelude.{◌≡◌, ℕ, ◌<◌, ◌≤◌, ◌↔◌, ◌⊎◌, Some, None, IsOk, IsSome, IsSomeAnd, MatchOption, IfOk, IfErr, OnErr, length};
 ghost use Rattle.span_id.specs.Id.{IsId};
-ghost use Rattle.span_slots.specs.Table.{value_at, next_id, IsIssued};
+ghost use Rattle.span_slots.specs.Table.{find, next_id, IsIssued};
 ghost use Rattle.span_slots.specs.Change.{Insert, after};
 ghost use Rattle.span_store.specs.inside.Adding.{child_in};
 
@@ -12,11 +12,11 @@ use span_slots::laws::{insert_issues_its_id_alone, next_id_was_never_issued};
 
 // Stores a new entry, and counts it at its parent. Refused with `Full` where no slot is free.
 pub(crate) fn place(slots: &mut Slots<Entry>, entry: Entry) -> Result<Id, Fault>
-    requires { MatchOption entry.parent (Unit {0}) (λ p. IsSomeAnd (value_at slots.old.entries p)
+    requires { MatchOption entry.parent (Unit {0}) (λ p. IsSomeAnd (find slots.old.entries p)
         (λ above. above.children < 4294967295)) }
     ensures full { IsOk result ↔ IsSome (next_id slots.old) }
     ensures id { IfOk result (λ id. next_id slots.old ≡ Some id) }
-    ensures vacant { IfOk result (λ id. value_at slots.old.entries id ≡ None) }
+    ensures vacant { IfOk result (λ id. find slots.old.entries id ≡ None) }
     ensures table { IfOk result (λ _. slots.new ≡ child_in (after slots.old (Insert entry)) entry.parent) }
     ensures unchanged { OnErr result (slots.new ≡ slots.old) }
     ensures fault { IfErr result (λ fault. fault ≡ Fault.Full) }

@@ -1,7 +1,7 @@
 ghost use Rattle.std.specs.Prelude.{◌≡◌, ◌++◌, [], ◌∷◌, IsSome, IsSomeAnd, IfOk, IfErr, OnOk};
-ghost use Rattle.span_slots.specs.Table.{value_at};
+ghost use Rattle.span_slots.specs.Table.{find, AreApart};
 ghost use Rattle.span_store.specs.Details.{details_there, all_details};
-ghost use Rattle.span_store.specs.inside.Invariant.{spans_of, AreApart, AreCounted};
+ghost use Rattle.span_store.specs.inside.Invariant.{spans_of, AreCounted};
 
 use crate::entry::Entry;
 use span_id::{Fault, Id};
@@ -42,9 +42,9 @@ pub(crate) fn all_details(slots: &Slots<Entry>) -> Result<Vec<SpanDetails>, Faul
 
 // Appends what is told of a span that is there.
 fn push_details(list: &mut Vec<SpanDetails>, slots: &Slots<Entry>, id: Id) -> Result<(), AllocError>
-    requires there { IsSome (value_at slots.now.entries id) }
+    requires there { IsSome (find slots.now.entries id) }
     requires counted { AreCounted slots.now.entries }
-    ensures { OnOk result (IsSomeAnd (value_at (spans_of slots.now.entries) id) (λ span.
+    ensures { OnOk result (IsSomeAnd (find (spans_of slots.now.entries) id) (λ span.
         list.new.items ≡ list.old.items ++ details_there (spans_of slots.now.entries) (id, span) ∷ [])) }
 {
     let Some(entry) = slots.get(id) else {

@@ -1,5 +1,5 @@
 ghost use Rattle.std.specs.Prelude.{◌≡◌, ◌<◌, ◌+◌, ◌↔◌, Some, None, IsTrue, IsSomeAnd, IfOk, IfErr, OnOk};
-ghost use Rattle.span_slots.specs.Table.{value_at};
+ghost use Rattle.span_slots.specs.Table.{find};
 ghost use Rattle.span_store.specs.inside.Reading.{no_more_at, no_child_at, HasRoom, HasRoomAbove};
 ghost use Rattle.span_store.specs.inside.Invariant.{AreBounded};
 
@@ -10,8 +10,8 @@ use span_slots::Slots;
 // Whether a span may have one more handle or child: it is open, and its count may rise.
 pub(crate) fn may_be_held(slots: &Slots<Entry>, max_count: u32, id: Id) -> Result<(), Fault>
     requires { AreBounded slots.now.entries max_count }
-    ensures accepted { OnOk result (HasRoom max_count (value_at slots.now.entries id)) }
-    ensures refused { IfErr result (λ fault. no_more_at max_count (value_at slots.now.entries id) ≡ Some fault) }
+    ensures accepted { OnOk result (HasRoom max_count (find slots.now.entries id)) }
+    ensures refused { IfErr result (λ fault. no_more_at max_count (find slots.now.entries id) ≡ Some fault) }
 {
     let Some(entry) = slots.get(id) else {
         return Err(Fault::Unknown);
@@ -46,7 +46,7 @@ pub(crate) fn checked_parent(
 
 // Whether the span has a handle.
 pub(crate) fn is_held(slots: &Slots<Entry>, id: Id) -> bool
-    ensures { IsTrue result ↔ IsSomeAnd (value_at slots.now.entries id) (λ entry. 0 < entry.handles) }
+    ensures { IsTrue result ↔ IsSomeAnd (find slots.now.entries id) (λ entry. 0 < entry.handles) }
 {
     match slots.get(id) {
         None => false,
@@ -57,7 +57,7 @@ pub(crate) fn is_held(slots: &Slots<Entry>, id: Id) -> bool
 // Whether the span is closing.
 pub(crate) fn is_closing(slots: &Slots<Entry>, id: Id) -> bool
     ensures { IsTrue result
-        ↔ IsSomeAnd (value_at slots.now.entries id) (λ entry. entry.handles + entry.children ≡ 0) }
+        ↔ IsSomeAnd (find slots.now.entries id) (λ entry. entry.handles + entry.children ≡ 0) }
 {
     match slots.get(id) {
         None => false,

@@ -1,6 +1,6 @@
 ghost use Rattle.std.specs.Prelude.{◌≡◌, ℕ, ◌↔◌, ◌⊎◌, Some, None, IfSome, IfNone, IfOk, IfErr, OnOk, OnErr, IsTrue, length, []};
 ghost use Rattle.span_id.specs.Id.{IsId};
-ghost use Rattle.span_slots.specs.Table.{value_at, id_from, next_id, IsIssued};
+ghost use Rattle.span_slots.specs.Table.{find, id_from, next_id, IsIssued};
 ghost use Rattle.span_store.specs.StoredSpan.{plain_entry};
 ghost use Rattle.span_store.specs.StoredSpans.{IsClosing, children_there, all_handles};
 ghost use Rattle.span_store.specs.Details.{all_details};
@@ -69,8 +69,8 @@ impl Store {
 
     /// The span of an id, if it is there: closing spans are, until their end was told.
     pub fn find(&self, id: Id) -> Option<&Entry>
-        ensures absent { IfNone result (value_at self.now.table.entries id ≡ None) }
-        ensures found { IfSome result (λ entry. value_at self.now.table.entries id ≡ Some (plain_entry entry.now)) }
+        ensures absent { IfNone result (find self.now.table.entries id ≡ None) }
+        ensures found { IfSome result (λ entry. find self.now.table.entries id ≡ Some (plain_entry entry.now)) }
         ensures children { IfSome result (λ entry. entry.now.children ≡ children_there self.now.table.entries id) }
     {
         // Looked at, the store shows what it keeps: here that the child counts are right.

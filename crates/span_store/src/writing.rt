@@ -1,5 +1,5 @@
 ghost use Rattle.std.specs.Prelude.{◌≡◌, ◌<◌, ◌-◌, ◌+◌, ◌==◌, Some, IsSomeAnd};
-ghost use Rattle.span_slots.specs.Table.{value_at, with_value};
+ghost use Rattle.span_slots.specs.Table.{find, with_value};
 ghost use Rattle.span_store.specs.declared.entry.Entry.{Entry};
 
 use crate::entry::Entry;
@@ -8,8 +8,8 @@ use span_slots::Slots;
 
 // Writes one more handle of a span down.
 pub(crate) fn add_handle(slots: &mut Slots<Entry>, id: Id)
-    requires { IsSomeAnd (value_at slots.old.entries id) (λ entry. entry.handles < 4294967295) }
-    ensures { (entry : Entry) → value_at slots.old.entries id ≡ Some entry → slots.new ≡ record slots.old {
+    requires { IsSomeAnd (find slots.old.entries id) (λ entry. entry.handles < 4294967295) }
+    ensures { (entry : Entry) → find slots.old.entries id ≡ Some entry → slots.new ≡ record slots.old {
       entries = with_value slots.old.entries id (record entry { handles = entry.handles + 1 });
     } }
 {
@@ -20,8 +20,8 @@ pub(crate) fn add_handle(slots: &mut Slots<Entry>, id: Id)
 
 // Writes one more child of a span down.
 pub(crate) fn add_child(slots: &mut Slots<Entry>, id: Id)
-    requires { IsSomeAnd (value_at slots.old.entries id) (λ entry. entry.children < 4294967295) }
-    ensures { (entry : Entry) → value_at slots.old.entries id ≡ Some entry → slots.new ≡ record slots.old {
+    requires { IsSomeAnd (find slots.old.entries id) (λ entry. entry.children < 4294967295) }
+    ensures { (entry : Entry) → find slots.old.entries id ≡ Some entry → slots.new ≡ record slots.old {
       entries = with_value slots.old.entries id (record entry { children = entry.children + 1 });
     } }
 {
@@ -32,11 +32,11 @@ pub(crate) fn add_child(slots: &mut Slots<Entry>, id: Id)
 
 // Takes one handle from a span, and answers whether nothing holds it any longer.
 pub(crate) fn drop_handle(slots: &mut Slots<Entry>, id: Id) -> bool
-    requires { IsSomeAnd (value_at slots.old.entries id) (λ entry. 0 < entry.handles) }
-    ensures table { (entry : Entry) → value_at slots.old.entries id ≡ Some entry → slots.new ≡ record slots.old {
+    requires { IsSomeAnd (find slots.old.entries id) (λ entry. 0 < entry.handles) }
+    ensures table { (entry : Entry) → find slots.old.entries id ≡ Some entry → slots.new ≡ record slots.old {
       entries = with_value slots.old.entries id (record entry { handles = entry.handles - 1 });
     } }
-    ensures last { (entry : Entry) → value_at slots.old.entries id ≡ Some entry →
+    ensures last { (entry : Entry) → find slots.old.entries id ≡ Some entry →
         result ≡ (entry.handles - 1 + entry.children == 0) }
 {
     let Some(entry) = slots.get_mut(id) else {
@@ -48,11 +48,11 @@ pub(crate) fn drop_handle(slots: &mut Slots<Entry>, id: Id) -> bool
 
 // Takes one child from a span, and answers whether nothing holds it any longer.
 pub(crate) fn drop_child(slots: &mut Slots<Entry>, id: Id) -> bool
-    requires { IsSomeAnd (value_at slots.old.entries id) (λ entry. 0 < entry.children) }
-    ensures table { (entry : Entry) → value_at slots.old.entries id ≡ Some entry → slots.new ≡ record slots.old {
+    requires { IsSomeAnd (find slots.old.entries id) (λ entry. 0 < entry.children) }
+    ensures table { (entry : Entry) → find slots.old.entries id ≡ Some entry → slots.new ≡ record slots.old {
       entries = with_value slots.old.entries id (record entry { children = entry.children - 1 });
     } }
-    ensures last { (entry : Entry) → value_at slots.old.entries id ≡ Some entry →
+    ensures last { (entry : Entry) → find slots.old.entries id ≡ Some entry →
         result ≡ (entry.handles + (entry.children - 1) == 0) }
 {
     let Some(entry) = slots.get_mut(id) else {

@@ -5,7 +5,7 @@ use Rattle.span_id.specs.declared.fault.Fault.{Fault}
 use Rattle.span_id.specs.declared.fault.Fault.TheVariants.{Unknown, BadLimits, Memory}
 use Rattle.span_id.specs.declared.limits.Limits.{Limits}
 use Rattle.span_id.specs.Limits.{AreInRange}
-use Rattle.span_slots.specs.Table.{value_at, id_from, next_id}
+use Rattle.span_slots.specs.Table.{find, id_from, next_id}
 use Rattle.span_store.specs.StoredSpan.{StoredSpan}
 use Rattle.span_store.specs.StoredSpans.{children_there, is_closing, all_handles}
 use Rattle.span_store.specs.Store.{StoreView}
@@ -63,8 +63,8 @@ found_there store id span = record {
 -- what is told of a span where it is there, and else that it is unknown; nothing changes
 abbrev pub TellsSpan : ℕ → SpanStoreFound → StoreView → Status → StoreView → Type 0
 TellsSpan id found old Done new =
-    IsSomeAnd (value_at old.table.entries id) (λ span. found ≡ found_there old id span) × (new ≡ old)
-TellsSpan id found old (Refused Unknown) new = (value_at old.table.entries id ≡ None) × (new ≡ old)
+    IsSomeAnd (find old.table.entries id) (λ span. found ≡ found_there old id span) × (new ≡ old)
+TellsSpan id found old (Refused Unknown) new = (find old.table.entries id ≡ None) × (new ≡ old)
 TellsSpan id found old _ new = ⊥
 
 -- the slot at which a walk goes on after an id; after 0 it begins

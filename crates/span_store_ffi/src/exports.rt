@@ -1,6 +1,6 @@
 //! What C calls. Each function takes whatever C passes, tests it, and answers the number of a status.
 ghost use Rattle.std.specs.Prelude.{◌≡◌, Some, None, Option, is_some, if◌then◌else◌, IfSome, IfNone, IfOk, IfErr};
-ghost use Rattle.span_slots.specs.Table.{value_at};
+ghost use Rattle.span_slots.specs.Table.{find};
 ghost use Rattle.span_store.specs.StoredSpans.{is_closing};
 ghost use Rattle.span_border.specs.Status.{meant};
 ghost use Rattle.span_border.specs.Ends.{OnHeld, Keeps};
@@ -19,7 +19,7 @@ use std::alloc::Global;
 // The id of a number, where it is one. A number that is none names no span.
 fn id_of(store: &Store, number: u64) -> Option<Id>
     ensures id { IfSome result (λ id. id ≡ number) }
-    ensures absent { IfNone result (value_at store.now.table.entries number ≡ None) }
+    ensures absent { IfNone result (find store.now.table.entries number ≡ None) }
 {
     each_slot_has_one_id_there(store);
     Id::from_u64(number)

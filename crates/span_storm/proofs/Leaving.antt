@@ -1,7 +1,7 @@
 -- A worker that has made whole rounds is inside no span: so nothing is left where all have.
 use Rattle.std.proofs.Common.{◌≡◌, ◌≢◌, ℕ, zero, suc, ◌+◌, ◌*◌, ◌%◌, ◌<◌, List, [], ◌∷◌, ◌++◌, length, get_or, refl, sym, ap, ◌∙◌, subst, inl, inr, arith, length-append}
 use Rattle.std.specs.Prelude.{Option, replicate, sum_by}
-use Rattle.std.proofs.lemmas.Bool.{cases_lt}
+use Rattle.std.proofs.lemmas.Bool.{cases_lt, false≢true}
 use Rattle.std.proofs.lemmas.Bool.Decides.{eqb_tells}
 use Rattle.std.proofs.lemmas.List.{get_or-set_same, get_or-set_other, get_or-replicate, nil_from_length, same_from_push}
 use Rattle.std.proofs.lemmas.List.Sums.{sum_by-cons}
@@ -15,6 +15,7 @@ use Rattle.span_core.specs.World.{World, stack_of, entries_in, empty_world}
 use Rattle.span_core.specs.Step.{Changes}
 use Rattle.span_core.specs.History.{issued, IsLegal}
 use Rattle.span_core.specs.History.IsLegal.{none as no_call, more as one_call}
+use Rattle.span_core.proofs.Steps.{answered}
 use Rattle.span_core.proofs.LegalWorlds.{stacks_are}
 use Rattle.span_core.proofs.Weights.{length-without_last}
 use Rattle.span_history.specs.Own.{own}
@@ -86,7 +87,7 @@ stands_next rules ids old new worker calls (try_close who id) (released closed) 
 stands_next rules ids old new worker calls (event who meta message fields parent) told within call h stands =
     still calls _ _ (ap (λ (w : World). length (stack_of w who)) h.after) (λ e. omega (arith, e, call.1)) (λ e. omega (arith, e, call.1)) stands
 stands_next rules ids old new worker calls (record_fields who id fields) answer within call h stands = absurd call
-stands_next rules ids old new worker calls _ _ within call h stands = absurd h
+stands_next rules ids old new worker calls _ _ within call h stands = absurd (false≢true (answered h))
 
 -- another worker's call
 stack_stays : (rules : List Filter) (ids : List ℕ) (old new : World) (worker : ℕ) (request : Request) (answer : Answer)
@@ -98,7 +99,7 @@ stack_stays rules ids old new worker (exit who id) (exited closed) other h = ap 
 stack_stays rules ids old new worker (try_close who id) (released closed) other h = ap (λ (w : World). stack_of w worker) h.after
 stack_stays rules ids old new worker (record_fields who id fields) recorded other h = ap (λ (w : World). stack_of w worker) h.after
 stack_stays rules ids old new worker (event who meta message fields parent) told other h = ap (λ (w : World). stack_of w worker) h.after
-stack_stays rules ids old new worker _ _ other h = absurd h
+stack_stays rules ids old new worker _ _ other h = absurd (false≢true (answered h))
 
 -- where the calls of a worker are of its rounds, the last one is the next after those before it
 record IsNext (worker : ℕ) (before : List PlainBatch) (batch : PlainBatch) : Type 0 where

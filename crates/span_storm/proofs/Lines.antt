@@ -34,16 +34,16 @@ rest_fails a b c text piece more p q is = front_after a b c text more (subst (Ap
 
 -- the rows, at one of them
 text_at : (rows : List Row) (i : ℕ) (row : Row) → drop i rows ≡ row ∷ drop (i + 1) rows
-    → text_of_rows rows ≡ text_of_rows (take i rows) ++ (number_line row.label.now row.number ++ text_of_rows (drop (i + 1) rows))
+    → text_of_rows rows ≡ text_of_rows (take i rows) ++ (number_line row.0.now row.1 ++ text_of_rows (drop (i + 1) rows))
 text_at rows i row is =
     ap text_of_rows (sym (take-append-drop i rows))
-    ∙ flat_map-append (λ (r : Row). number_line r.label.now r.number) (take i rows) (drop i rows)
+    ∙ flat_map-append (λ (r : Row). number_line r.0.now r.1) (take i rows) (drop i rows)
     ∙ ap (λ l. text_of_rows (take i rows) ++ text_of_rows l) is
-    ∙ ap (λ t. text_of_rows (take i rows) ++ t) (flat_map-cons (λ (r : Row). number_line r.label.now r.number) row (drop (i + 1) rows))
+    ∙ ap (λ t. text_of_rows (take i rows) ++ t) (flat_map-cons (λ (r : Row). number_line r.0.now r.1) row (drop (i + 1) rows))
 
 -- the lines before a row went out, and its own did not to its end
-pub row_fails : (a b c : Known) (rows : List Row) (i : ℕ) (row : Row) → Appends a b (text_of_rows (take i rows)) → AppendsFront b c (number_line row.label.now row.number)
+pub row_fails : (a b c : Known) (rows : List Row) (i : ℕ) (row : Row) → Appends a b (text_of_rows (take i rows)) → AppendsFront b c (number_line row.0.now row.1)
     → drop i rows ≡ row ∷ drop (i + 1) rows → AppendsFront a c (text_of_rows rows)
 row_fails a b c rows i row p q is =
     subst (AppendsFront a c) (sym (text_at rows i row is))
-    (front_after a b c (text_of_rows (take i rows)) _ p (front_more b c (number_line row.label.now row.number) (text_of_rows (drop (i + 1) rows)) q))
+    (front_after a b c (text_of_rows (take i rows)) _ p (front_more b c (number_line row.0.now row.1) (text_of_rows (drop (i + 1) rows)) q))

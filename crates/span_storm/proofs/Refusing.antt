@@ -11,6 +11,7 @@ use Rattle.span_layers.specs.Filter.{Filter}
 use Rattle.span_outlet.specs.Request.{Request, new_span, clone_span, enter, exit, try_close, record_fields, event, Answer, worker_of}
 use Rattle.span_outlet.specs.Batch.{PlainBatch}
 use Rattle.span_core.specs.Core.{CoreView, IsAccepted, IsRefused, WhyRefused, are_keys, is_named}
+use Rattle.span_core.proofs.Judging.{tells}
 use Rattle.span_history.specs.Own.{own}
 use Rattle.span_history.proofs.Owning.{one_more_own}
 use Rattle.span_registry.specs.Worker.{WorkerView}
@@ -36,9 +37,9 @@ named worker place (record_fields caller id fields) call = absurd call
 named worker place (event caller meta message fields parent) call = ap (λ (m : PlainMeta). is_name m.name && are_keys fields) call.2 ∙ ap are_keys call.4
 
 pub may_come : (core : CoreView) (worker place : ℕ) (request : Request) (fault : Fault) → IsCallOfRound worker place request → WhyRefused core request fault → MayCome fault
-may_come core worker place request BadName call why = absurd (false≢true (sym why ∙ named worker place request call))
-may_come core worker place request TooManyLayers call why = why
-may_come core worker place request BadLimits call why = why
+may_come core worker place request BadName call why = absurd (false≢true (sym (tells core request BadName why) ∙ named worker place request call))
+may_come core worker place request TooManyLayers call why = tells core request TooManyLayers why
+may_come core worker place request BadLimits call why = tells core request BadLimits why
 may_come core worker place request Unknown call why = tt
 may_come core worker place request CountFull call why = tt
 may_come core worker place request Full call why = tt

@@ -7,7 +7,7 @@ use Rattle.span_registry.specs.declared.report.Report.{Report}
 abbrev pub number_line : List ℕ → ℕ → List ℕ
 number_line label number = label ++ (codes " " ++ (decimal number ++ codes "\n"))
 
--- the eight lines of a storm with so many workers and rounds
+-- the eight lines of a storm with so many workers and rounds; the notes that were missed stand as `refused`
 abbrev pub storm_lines : ℕ → ℕ → Report → List ℕ
 storm_lines workers rounds report = flat_map (λ (row : List ℕ × ℕ). number_line row.0 row.1) (
     (codes "workers", workers)
@@ -16,6 +16,6 @@ storm_lines workers rounds report = flat_map (λ (row : List ℕ × ℕ). number
     ∷ (codes "closed", report.closed)
     ∷ (codes "calls", report.calls)
     ∷ (codes "lines", vec_len report.lines)
-    ∷ (codes "refused", report.refused)
+    ∷ (codes "refused", report.missed)
     ∷ (codes "left", report.left)
     ∷ [])

@@ -10,7 +10,6 @@ use Rattle.span_layers.specs.declared.form.Form.{Form}
 use Rattle.span_outlet.specs.declared.batch.ParentOf.TheVariants.{Current}
 use Rattle.span_outlet.specs.Request.{Request, new_span, clone_span, enter, exit, try_close, record_fields, event}
 use Rattle.span_outlet.specs.Batch.{PlainBatch}
-use Rattle.span_outlet.specs.Ring.{places_of}
 use Rattle.span_core.specs.World.{empty_world}
 use Rattle.span_core.specs.Step.{is_wanted_meta}
 use Rattle.span_core.specs.History.{IsLegal}
@@ -83,7 +82,7 @@ pub record IsStormEnd
   pub core : CoreView
   pub limits_are : core.limits ≡ limits
   pub rules_are : core.rules ≡ rules
-  pub places : IsSomeAnd core.name (λ ring. places_of ring ≡ limits.ring)
+  pub places : IsSomeAnd core.name (λ ring. ring.places ≡ limits.ring)
   pub legal : IsLegal rules limits.workers core.sent core.world
   pub within : IsWithin limits core
   pub each : (worker : ℕ) → worker < limits.workers → length (own worker core.sent) ≡ 9 * rounds

@@ -11,12 +11,9 @@ use span_registry::Report;
 use span_run::{Counted, WriteFailed, write_text};
 use std::io::Write;
 
-// A number and what it counts.
+// What is counted, and its number.
 #[derive(Clone, Copy)]
-struct Row {
-    label: &'static str,
-    number: u64,
-}
+struct Row(&'static str, u64);
 
 /// Writes how a storm of so many workers and rounds ended: eight lines with a number each. It takes no memory, and does
 /// not flush.
@@ -36,38 +33,14 @@ pub fn show<W: Write>(
     ensures flushes { flushes_of output.new ≡ flushes_of output.old }
 {
     let rows = [
-        Row {
-            label: "workers",
-            number: u64::from(workers),
-        },
-        Row {
-            label: "rounds",
-            number: u64::from(rounds),
-        },
-        Row {
-            label: "made",
-            number: report.made,
-        },
-        Row {
-            label: "closed",
-            number: report.closed,
-        },
-        Row {
-            label: "calls",
-            number: report.calls,
-        },
-        Row {
-            label: "lines",
-            number: report.lines.len() as u64,
-        },
-        Row {
-            label: "refused",
-            number: report.refused,
-        },
-        Row {
-            label: "left",
-            number: u64::from(report.left),
-        },
+        Row("workers", u64::from(workers)),
+        Row("rounds", u64::from(rounds)),
+        Row("made", report.made),
+        Row("closed", report.closed),
+        Row("calls", report.calls),
+        Row("lines", report.lines.len() as u64),
+        Row("refused", report.missed),
+        Row("left", u64::from(report.left)),
     ];
     write_rows(&rows, output)
 }
@@ -82,7 +55,7 @@ fn write_rows<W: Write>(rows: &[Row], output: &mut Counted<W>) -> Result<(), Wri
     ensures flushes { flushes_of output.new ≡ flushes_of output.old }
 {
     for row in rows {
-        write_line(row.label, row.number, output)?;
+        write_line(row.0, row.1, output)?;
     }
     Ok(())
 }

@@ -1,7 +1,6 @@
 //! A whole storm, from the making of its registry to its report.
 ghost use Rattle.std.specs.Prelude.{◌≡◌, ◌*◌, ◌<◌, ◌≤◌, [], Some, true, IfOk, IfErr};
 ghost use Rattle.span_layers.specs.Layers.{filters_in, forms_in};
-ghost use Rattle.span_outlet.specs.Ring.{places_of};
 ghost use Rattle.span_registry.specs.Blanks.{blanks_of};
 ghost use Rattle.span_storm.specs.Storm.{IsStormEnd, IsStormFault, storm_limits, wants_jobs};
 ghost use Rattle.span_storm.specs.inside.Back.{HasNumbers};
@@ -128,7 +127,7 @@ fn run<
     requires setup { (filters.rules ≡ S.rules) × ([] ≡ S.forms) × (Some ring.name ≡ S.ring) }
     requires wanted { wants_jobs S.rules ≡ true }
     requires ring { (ring.sent ≡ []) × (Some drain.name ≡ S.ring) }
-    requires places { places_of drain.name ≡ S.limits.ring }
+    requires places { drain.name.places ≡ S.limits.ring }
     requires blanks { blanks ≡ blanks_of S.limits H.name H.parts C.name C.parts S.table S.history }
     ensures numbers { IfOk result (λ report. HasNumbers S.limits.workers rounds report) }
     ensures ended { IfOk result (λ report. IsStormEnd S.limits rounds S.rules drain.forms report) }

@@ -23,7 +23,11 @@ pub(crate) enum NextNote {
         bytes: usize,
     },
     /// A note of so many fields and bytes, of one of which there are more than there was room for. It stays the next one.
-    Long { fields: usize, bytes: usize },
+    Long {
+        note: SpanNote,
+        fields: usize,
+        bytes: usize,
+    },
     /// None now.
     None,
 }
@@ -79,8 +83,22 @@ impl Lines {
                 fields: count,
                 bytes,
             },
-            SHORT_BUFFER => NextNote::Long { fields: count, bytes },
+            SHORT_BUFFER => NextNote::Long {
+                note,
+                fields: count,
+                bytes,
+            },
             _ => NextNote::None,
+        }
+    }
+
+    /// The numbers of the next line's note, which stays the next one; none where there is none now.
+    #[inline]
+    pub(crate) fn peek_note(&mut self) -> Option<SpanNote> {
+        // Each has a byte at least, for which there is no room.
+        match self.next_note(&mut [], &mut []) {
+            NextNote::Long { note, .. } => Some(note),
+            _ => None,
         }
     }
 
@@ -97,11 +115,11 @@ impl Lines {
 
     /// How many batches were taken, and how many notes were missed for want of memory.
     pub(crate) fn counts(&mut self) -> (u64, u64) {
-        let (mut batches, mut refused) = (0, 0);
+        let (mut batches, mut missed) = (0, 0);
         // SAFETY: the handle is full and lent to this call alone, and both numbers are this call's.
-        let status = unsafe { span_drain_counts(&mut self.handle, &mut batches, &mut refused) };
+        let status = unsafe { span_drain_counts(&mut self.handle, &mut batches, &mut missed) };
         debug_assert_eq!(status, OK);
-        (batches, refused)
+        (batches, missed)
     }
 }
 

@@ -55,7 +55,7 @@ first_note spans worker id parent name fields layer = record {
   id = id;
   path = path_text (path_at layer spans parent ++ name ∷ []);
   fields = fields;
-  tail = None;
+  event = None;
 }
 
 -- whether a layer is told: these bits have it, and it wants notes of this kind

@@ -2,11 +2,14 @@
 -- crate: no public clause cites it.
 use Rattle.std.specs.Prelude.{◌≡◌, ℕ, ◌-◌, List, [], ◌∷◌, ◌++◌, length, map, filter, Option, Some, None, IsTrue, IfSome, All, unwrap_or}
 use Rattle.std.specs.Arc.{arc_str_bytes}
+use Rattle.std.specs.Borrow.{Bor}
 use Rattle.std.specs.List.{range_with_len}
 use Rattle.span_id.specs.Bits.{has_bit}
-use Rattle.span_layers.specs.Note.{PlainNote, Told}
+use Rattle.span_layers.specs.Note.{PlainNote, EventText}
 use Rattle.span_layers.specs.Filter.{Filter}
-use Rattle.span_forest.specs.Spans.{Spans, IsOpen}
+use Rattle.span_forest.specs.declared.span.Span.{Span as OpenSpan}
+use Rattle.span_forest.specs.Node.{node_of}
+use Rattle.span_forest.specs.Spans.{Spans, find, IsOpen}
 use Rattle.span_forest.specs.Path.{path_text}
 use Rattle.span_core.specs.declared.notes.Telling.{Telling}
 use Rattle.span_core.specs.declared.notes.paths.ToldPath.{ToldPath}
@@ -32,37 +35,42 @@ AreSummarised spans _ = Unit {0}
 
 -- the same of an event
 abbrev pub IsSummarised : Spans → Subject → Type 0
-IsSummarised spans (Span id) = Unit {0}
+IsSummarised spans (Span id seen) = Unit {0}
 IsSummarised spans (NewSpan id parent name) = Unit {0}
 IsSummarised spans (Event around level message) = AreSummarised spans around
 
--- the span that is told of is open; an event has none of its own, and a new span isn't there yet
+-- the span stands at this place
+abbrev pub IsAt : Spans → Option ℕ → Bor OpenSpan → Type 0
+IsAt spans place span = IfSome place (λ id. find spans id ≡ Some (node_of span.now))
+
+-- the span that is told of is open, and is the one in hand; an event has none of its own, and a new span isn't there yet
 abbrev pub IsThere : Spans → Subject → Type 0
-IsThere spans (Span id) = IsOpen spans id
+IsThere spans (Span id seen) = IsOpen spans id × IfSome seen (IsAt spans (Some id))
 IsThere spans (NewSpan id parent name) = Unit {0}
 IsThere spans (Event around level message) = Unit {0}
 
 -- where the path of a layer is read: that of a new span at its parent
 abbrev pub place_told : Spans → Subject → ℕ → Option ℕ
-place_told spans (Span id) layer = Some id
+place_told spans (Span id seen) layer = Some id
 place_told spans (NewSpan id parent name) layer = parent
 place_told spans (Event around level message) layer = contextual_span spans (ids_around around) layer
 
--- a span is open where the path of a span or an event is read; that of a new span goes on from its parent's
+-- a span is open where the path of a span or an event is read, and is the one in hand; that of a new span goes on from
+-- its parent's
 abbrev pub IsReadable : Spans → Subject → Option ℕ → Type 0
-IsReadable spans (Span id) place = IfSome place (IsOpen spans)
+IsReadable spans (Span id seen) place = IfSome place (IsOpen spans) × IfSome seen (IsAt spans place)
 IsReadable spans (NewSpan id parent name) place = Unit {0}
 IsReadable spans (Event around level message) place = IfSome place (IsOpen spans)
 
 -- the id that a layer is told, which reads its path at this place; where there is none, 0
 abbrev pub id_told : Subject → Option ℕ → ℕ
-id_told (Span id) place = unwrap_or place 0
+id_told (Span id seen) place = unwrap_or place 0
 id_told (NewSpan id parent name) place = id
 id_told (Event around level message) place = unwrap_or place 0
 
 -- the text of the path that it is told, which has these names where it is read; a new span has its own name too
 abbrev pub text_told : Subject → List (List ℕ) → List ℕ
-text_told (Span id) path = path_text path
+text_told (Span id seen) path = path_text path
 text_told (NewSpan id parent name) path = path_text (path ++ name.now ∷ [])
 text_told (Event around level message) path = path_text path
 
@@ -76,10 +84,10 @@ pub record Knows (told : List (List ℕ) → List ℕ) (spans : Spans) (paths : 
   pub first : IfSome paths.first (KnowsPath told spans)
   pub further : All (KnowsPath told spans) paths.further.items
 
--- the level and the message that it is told
-abbrev pub tail_told : Subject → Option Told
-tail_told (Event around level message) = Some (level, arc_str_bytes message.now)
-tail_told _ = None
+-- what an event says
+abbrev pub event_said : Subject → Option EventText
+event_said (Event around level message) = Some (record { level = level; message = arc_str_bytes message.now })
+event_said _ = None
 
 -- what a layer is told
 abbrev pub told_to : Spans → Telling → ℕ → PlainNote
@@ -90,7 +98,7 @@ told_to spans what layer = record {
   id = id_told what.subject (place_told spans what.subject layer);
   path = text_told what.subject (path_at layer spans (place_told spans what.subject layer));
   fields = what.fields.now;
-  tail = tail_told what.subject;
+  event = event_said what.subject;
 }
 
 -- the layers from this number on that this mask has, ascending

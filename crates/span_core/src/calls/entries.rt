@@ -51,6 +51,7 @@ impl<O: Outlet, A> Core<O, A> {
             kind: Kind::OnEnter,
             id,
             bits: entering.bits,
+            seen: None,
         };
         let notes = span_notes(
             &mut self.recent,

@@ -93,6 +93,7 @@ impl<O: Outlet, A> Core<O, A> {
             kind: Kind::OnRecord,
             id,
             bits,
+            seen: None,
         };
         let Announced { call, notes } = push_fields(
             &mut self.recent,
@@ -216,11 +217,12 @@ fn push_fields(
     recent: &mut Recent,
     rules: &Rules,
     forest: &mut Forest,
-    what: &Happening,
+    what: &Happening<'_>,
     fields: &GivenFields<'_>,
 ) -> Result<Announced, Fault>
     requires held { IsHeld forest.old.spans what.now.id Handle }
     requires bits { what.now.bits.0 ≡ bits_in forest.old.spans what.now.id }
+    requires seen { what.now.seen ≡ None }
     requires remembers { Remembers forest.old recent.old.paths }
     ensures forest { OnOk result (forest.new ≡ record forest.old {
       spans = with_change (with_fields (fields_given fields.now)) forest.old.spans what.now.id;

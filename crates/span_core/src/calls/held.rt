@@ -5,8 +5,7 @@ ghost use Rattle.span_forest.specs.Spans.{find};
 ghost use Rattle.span_forest.specs.Count.{reference_count};
 ghost use Rattle.span_forest.specs.Holders.{IsHeld, held_in};
 ghost use Rattle.span_core.specs.Happening.{bits_in};
-ghost use Rattle.span_core.specs.Step.{is_open};
-ghost use Rattle.span_core.specs.Core.{has_handle};
+ghost use Rattle.span_core.specs.Step.{is_open, has_handle};
 
 use span_forest::{Forest, Span};
 use span_id::{Bits, Id};

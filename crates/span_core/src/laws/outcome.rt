@@ -17,6 +17,7 @@ ghost use Rattle.span_core.specs.Core.{IsLate};
 ghost use Rattle.span_core.specs.Outcome.{outcome, done, refused, not_wanted, accepted, TakesNextId, IsNextIdNew, IsAllowed};
 
 use crate::Core;
+use crate::laws::sent::what_was_sent_is_legal;
 use span_forest::laws::next_id_is_new;
 use span_outlet::Outlet;
 
@@ -54,7 +55,7 @@ pub fn outcome_is_allowed<O: Outlet, A>(core: &Core<O, A>)
         IsAllowed core.now request (outcome core.now request) }
 {
     next_id_is_new_here(core);
-    core.calls();
+    what_was_sent_is_legal(core);
 }
 
 /// Two steps from one world for one request have the same answer, notes and next world, if the ids that they issue are

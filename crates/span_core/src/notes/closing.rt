@@ -159,6 +159,7 @@ fn push_close_alone<'a>(
         kind: Kind::OnClose,
         id,
         bits: span.bits,
+        seen: Some(span),
     };
     push_notes(recent, notes, paths, rules, forest, &what, &span.fields)
 }
@@ -298,7 +299,7 @@ fn close_note(
     ensures remembers { Remembers forest.now recent.new.paths }
     ensures memory { IfErr result (λ fault. fault ≡ Fault.Memory) }
 {
-    let path = close_path(recent, forest, before, paths, layer, what.id)?;
+    let path = close_path(recent, forest, before, what, paths, layer)?;
     let fields = what.span.fields.share()?;
     Ok(Note {
         layer,
@@ -307,25 +308,25 @@ fn close_note(
         id: what.id.get(),
         path,
         fields,
-        tail: None,
+        event: None,
     })
 }
 
-// A layer's path at a span: from the note before, if there is one, else by a walk.
+// A layer's path at a span that was found: from the note before, if there is one, else by a walk.
 fn close_path(
     recent: &mut Recent,
     forest: &Forest,
     before: Option<Below<'_>>,
+    what: &SeenSpan<'_>,
     paths: &mut ToldPaths,
     layer: u32,
-    id: Id,
 ) -> Result<ArcStr, Fault>
-    requires open { IsOpen forest.now.spans id }
+    requires found { find forest.now.spans what.now.id ≡ Some (node_of what.now.span.now) }
     requires below { IfSome before (λ below.
-        TellsBelow (path layer forest.now.spans id) below.name (plain_note below.note.now)) }
+        TellsBelow (path layer forest.now.spans what.now.id) below.name (plain_note below.note.now)) }
     requires known { Knows path_text forest.now.spans paths.old }
     requires remembers { Remembers forest.now recent.old.paths }
-    ensures path { IfOk result (λ text. arc_str_bytes text ≡ path_text (path layer forest.now.spans id)) }
+    ensures path { IfOk result (λ text. arc_str_bytes text ≡ path_text (path layer forest.now.spans what.now.id)) }
     ensures known { OnOk result (Knows path_text forest.now.spans paths.new) }
     ensures remembers { Remembers forest.now recent.new.paths }
     ensures memory { IfErr result (λ fault. fault ≡ Fault.Memory) }
@@ -335,7 +336,14 @@ fn close_path(
             return same_text(recent.alloc, paths, text);
         }
     }
-    seen_text(recent, forest, paths, layer, &Some(id))
+    seen_text(
+        recent,
+        forest,
+        paths,
+        layer,
+        &Some(what.id),
+        Some(what.span),
+    )
 }
 
 // The path of a note without its last name, which has so many bytes.

@@ -1,17 +1,17 @@
 //! The texts of the paths that a call tells its layers, each made once for all that see it.
-ghost use Rattle.std.specs.Prelude.{◌≡◌, ◌++◌, ◌∷◌, [], ℕ, List, string_bytes, IsTrue, IfOk, IfErr, OnOk, IfSome, All};
+ghost use Rattle.std.specs.Prelude.{◌≡◌, ◌++◌, ◌∷◌, [], ℕ, List, Some, string_bytes, IsTrue, IfOk, IfErr, OnOk, IfSome, All};
 ghost use Rattle.std.specs.Arc.{arc_str_bytes};
 ghost use Rattle.span_id.specs.Bits.{has_bit};
 ghost use Rattle.span_forest.specs.Spans.{Spans, IsOpen};
 ghost use Rattle.span_forest.specs.Path.{path, path_text};
 ghost use Rattle.span_core.specs.Happening.{path_at};
-ghost use Rattle.span_core.specs.inside.Telling.{Knows, KnowsPath};
+ghost use Rattle.span_core.specs.inside.Telling.{IsAt, Knows, KnowsPath};
 ghost use Rattle.span_core.specs.inside.Remembering.{Remembers};
 
 use crate::known_paths::{KnownPaths, LAYERS};
 use crate::recent::Recent;
 use span_forest::laws::each_slot_has_one_open_id;
-use span_forest::{Forest, PathText};
+use span_forest::{Forest, PathText, Span};
 use span_id::{Bits, Fault, Id, copy_text};
 use span_layers::Note;
 use std::alloc::Global;
@@ -167,15 +167,17 @@ impl ToldPaths {
 }
 
 // The path of a layer at a place: the text that this call told, where the layer sees the same, else one that was told
-// there by an earlier call, else one by a walk.
+// there by an earlier call, else one by a walk, which begins at the span of the place if that is in hand.
 pub(crate) fn seen_text(
     recent: &mut Recent,
     forest: &Forest,
     paths: &mut ToldPaths,
     layer: u32,
     place: &Option<Id>,
+    seen: Option<&Span>,
 ) -> Result<ArcStr, Fault>
     requires open { IfSome place.now (IsOpen forest.now.spans) }
+    requires seen { IfSome seen (IsAt forest.now.spans place.now) }
     requires known { Knows path_text forest.now.spans paths.old }
     requires remembers { Remembers forest.now recent.old.paths }
     ensures text { IfOk result (λ text. arc_str_bytes text ≡ path_text (path_at layer forest.now.spans place.now)) }
@@ -189,7 +191,7 @@ pub(crate) fn seen_text(
     if let Some(text) = known_text(&recent.paths, forest, layer, place) {
         return Ok(text.clone()?);
     }
-    walked_text(recent, forest, paths, layer, place)
+    walked_text(recent, forest, paths, layer, place, seen)
 }
 
 // The text that an earlier call told of a layer's path at a span that is open. Where nothing is remembered nothing is
@@ -218,8 +220,10 @@ fn walked_text(
     paths: &mut ToldPaths,
     layer: u32,
     place: &Option<Id>,
+    seen: Option<&Span>,
 ) -> Result<ArcStr, Fault>
     requires open { IfSome place.now (IsOpen forest.now.spans) }
+    requires seen { IfSome seen (IsAt forest.now.spans place.now) }
     requires known { Knows path_text forest.now.spans paths.old }
     requires remembers { Remembers forest.now recent.old.paths }
     ensures text { IfOk result (λ text. arc_str_bytes text ≡ path_text (path_at layer forest.now.spans place.now)) }
@@ -227,7 +231,7 @@ fn walked_text(
     ensures remembers { Remembers forest.now recent.new.paths }
     ensures memory { IfErr result (λ fault. fault ≡ Fault.Memory) }
 {
-    let seen = text_at(recent.alloc, forest, layer, place)?;
+    let seen = text_at(recent.alloc, forest, layer, place, seen)?;
     let text = paths.tell(place, seen)?;
     remember(&mut recent.paths, forest, layer, place, &text);
     Ok(text)
@@ -314,7 +318,9 @@ fn text_at(
     forest: &Forest,
     layer: u32,
     place: &Option<Id>,
+    seen: Option<&Span>,
 ) -> Result<PathText, Fault>
+    requires seen { IfSome seen (IsAt forest.now.spans place.now) }
     ensures text { IfOk result (λ seen. string_bytes seen.text ≡ path_text (path_at layer forest.now.spans place.now)) }
     ensures same { IfOk result (λ seen. (other : ℕ) → IsTrue (has_bit seen.same.0 other) →
         path_at other forest.now.spans place.now ≡ path_at layer forest.now.spans place.now) }
@@ -325,9 +331,22 @@ fn text_at(
         let same = Bits::all();
         return Ok(PathText { text, same });
     };
-    match forest.path_text(layer, *id) {
+    match walked(forest, layer, *id, seen) {
         Ok(seen) => Ok(seen),
         Err(_) => Err(Fault::Memory),
+    }
+}
+
+// The same at a span, by a walk which begins at the span itself if that is in hand.
+fn walked(forest: &Forest, layer: u32, id: Id, seen: Option<&Span>) -> Result<PathText, Fault>
+    requires { IfSome seen (IsAt forest.now.spans (Some id)) }
+    ensures text { IfOk result (λ seen. string_bytes seen.text ≡ path_text (path layer forest.now.spans id)) }
+    ensures same { IfOk result (λ seen. (other : ℕ) → IsTrue (has_bit seen.same.0 other) →
+        path other forest.now.spans id ≡ path layer forest.now.spans id) }
+{
+    match seen {
+        Some(span) => forest.path_text_from(layer, id, span),
+        None => forest.path_text(layer, id),
     }
 }
 

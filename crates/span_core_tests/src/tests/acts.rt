@@ -4,10 +4,10 @@ ghost use Rattle.std.specs.Prelude.{◌<◌};
 
 use crate::tests::answers::{Answer, accepted, closed, entered, found, made};
 use crate::tests::compare::id;
+use span_component_tests::values::{list, meta};
 use span_core::Core;
 use span_id::{Field, Id, Level, Meta};
 use span_outlet::{Outlet, ParentOf};
-use span_parts_tests::values::{list, meta};
 use std::alloc::Global;
 use std::process::Abort;
 
@@ -143,7 +143,7 @@ pub(crate) enum Act<'a> {
     Owners(&'a [(usize, usize)]),
     /// A step of the drain.
     Step,
-    /// So many steps of the drain, and how many batches, refused notes and lines it had.
+    /// So many steps of the drain, and how many batches, missed notes and lines it had.
     Drain(u32),
 }
 

@@ -22,9 +22,9 @@ pub(crate) enum Answer {
     /// How many calls were accepted.
     Accepted(u64),
     Is(bool),
-    /// How many notes were told and refused.
+    /// How many notes were told and missed.
     Stepped(Option<Step>),
-    /// How many batches the drain had, how many notes were refused, and how many lines there are.
+    /// How many batches the drain had, how many notes were missed, and how many lines there are.
     Drained([u64; 3]),
     Refused(Fault),
     NoWorker,
@@ -119,8 +119,8 @@ pub(crate) fn push_answer(rt: &impl Abort, alloc: Global, text: &mut Vec<u8>, an
         Answer::Found(numbers) => push_numbers(rt, alloc, text, "= found", numbers),
         Answer::Counted(counts) => push_numbers(rt, alloc, text, "= counts", counts),
         Answer::Accepted(number) => push_numbers(rt, alloc, text, "= accepted", &[*number]),
-        Answer::Stepped(Some(Step { told, refused })) => {
-            let numbers = [*told as u64, *refused as u64];
+        Answer::Stepped(Some(Step { told, missed })) => {
+            let numbers = [*told as u64, *missed as u64];
             push_numbers(rt, alloc, text, "= step", &numbers);
         }
         Answer::Drained(numbers) => push_numbers(rt, alloc, text, "= drained", numbers),

@@ -1,9 +1,9 @@
 //! A long chain of spans.
 use crate::tests::acts::{Act, Calls, Ids};
 use crate::tests::play::Play;
+use span_component_tests::plans::{Plan, Wanted};
 use span_id::{Level, Limits};
 use span_layers::Form;
-use span_parts_tests::plans::{Plan, Wanted};
 
 const LENGTH: u64 = 65536;
 

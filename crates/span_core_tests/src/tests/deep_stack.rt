@@ -3,9 +3,9 @@
 //! of the other's.
 use crate::tests::acts::{Act, Calls, Ids};
 use crate::tests::play::{Play, ends, played};
+use span_component_tests::plans::{Plan, Wanted};
 use span_id::{Level, Limits};
 use span_layers::Form;
-use span_parts_tests::plans::{Plan, Wanted};
 
 const LIMITS: Limits = Limits {
     slots: 400,

@@ -5,10 +5,10 @@ ghost use Rattle.span_layers.specs.Note.{plain_note};
 ghost use Rattle.span_layers.specs.Rule.{pairs_of, is_admitted};
 ghost use Rattle.span_layers.specs.Text.{text_of};
 
+use span_component_tests::plans::{Plan, add};
+use span_component_tests::watch::{Noting, Refused, Watch};
 use span_id::Meta;
 use span_layers::{Form, Hooks, Layers, Note, Rule};
-use span_parts_tests::plans::{Plan, add};
-use span_parts_tests::watch::{Noting, Refused, Watch};
 use std::alloc::{AllocError, Global};
 use std::process::Abort;
 

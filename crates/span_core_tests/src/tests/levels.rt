@@ -2,9 +2,9 @@
 use crate::tests::compare::same;
 use crate::tests::hooks::layers;
 use crate::tests::on_a_ring::ringed;
+use span_component_tests::plans::{Plan, Wanted};
 use span_id::{Level, Limits};
 use span_layers::Form;
-use span_parts_tests::plans::{Plan, Wanted};
 use std::alloc::Global;
 use std::process::Abort;
 

@@ -5,9 +5,9 @@ use crate::tests::compare::{holds, same};
 use crate::tests::hooks::layers;
 use crate::tests::on_a_ring::played_on_ring;
 use crate::tests::play::Play;
+use span_component_tests::plans::{EVERYTHING, Plan, Wanted};
 use span_id::{Level, Limits};
 use span_layers::Form;
-use span_parts_tests::plans::{EVERYTHING, Plan, Wanted};
 
 const LIMITS: Limits = Limits {
     slots: 500,
@@ -51,7 +51,9 @@ static PLAYS: [(Play<'static>, u32); 2] = [
                 (0, Act::Event("app", Level::Info, "look", &[])),
                 (0, Act::Drain(11)),
             ],
-            expected: "= accepted 200\n= drained 200 0 400\n= accepted 200\n= drained 400 0 800\n= accepted 252\n= drained 652 0 1304\n= 64\n= entered\n= told\n= open\n= closed\n= 65\n= entered\n= told\n= 66\n= told\n= drained 662 0 1324\n",
+            expected: "= accepted 200\n= drained 200 0 400\n= accepted 200\n= drained 400 0 800\n\
+                = accepted 252\n= drained 652 0 1304\n= 64\n= entered\n= told\n= open\n= closed\n\
+                = 65\n= entered\n= told\n= 66\n= told\n= drained 662 0 1324\n",
         },
         65,
     ),
@@ -82,7 +84,10 @@ static PLAYS: [(Play<'static>, u32); 2] = [
                 (0, THREE),
                 (0, Act::Drain(2)),
             ],
-            expected: "= 1\n= told\n= cloned\n= told\n= drained 3 0 4\n= recorded\n= entered\n= drained 5 0 6\n= told\n= told\n= told\n= open\n= open\n= drained 11 0 15\n= accepted 138\n= drained 149 0 84\n= closed\n= drained 150 0 154\n= told\n= drained 151 0 157\n",
+            expected: "= 1\n= told\n= cloned\n= told\n= drained 3 0 4\n= recorded\n= entered\n\
+                = drained 5 0 6\n= told\n= told\n= told\n= open\n= open\n= drained 11 0 15\n\
+                = accepted 138\n= drained 149 0 84\n= closed\n= drained 150 0 154\n= told\n\
+                = drained 151 0 157\n",
         },
         0,
     ),

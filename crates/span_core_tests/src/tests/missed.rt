@@ -2,10 +2,10 @@
 use crate::tests::acts::Act;
 use crate::tests::hooks::{add_plan, layers};
 use crate::tests::play::{Play, SMALL, ends, played_on};
+use span_component_tests::plans::EVERYTHING;
+use span_component_tests::watch::Refused;
 use span_layers::{Kind, Layers};
 use span_outlet::Kept;
-use span_parts_tests::plans::EVERYTHING;
-use span_parts_tests::watch::Refused;
 use std::alloc::Global;
 use std::process::Abort;
 
@@ -19,7 +19,8 @@ const FIRST_REFUSED: Play<'static> = Play {
         (0, Act::Close(1)),
         (0, Act::Exit(1)),
     ],
-    expected: "L0 new 1 w0 a\nL1 new 1 w0 a\n= 1\nL1 enter 1 w0 a\n= entered\n= open\nL0 exit 1 w0 a\nL1 exit 1 w0 a\nL0 close 1 w0 a\nL1 close 1 w0 a\n= closed\n",
+    expected: "L0 new 1 w0 a\nL1 new 1 w0 a\n= 1\nL1 enter 1 w0 a\n= entered\n= open\n\
+        L0 exit 1 w0 a\nL1 exit 1 w0 a\nL0 close 1 w0 a\nL1 close 1 w0 a\n= closed\n",
 };
 
 // The first of two layers is refused memory for the text of an entry.

@@ -4,13 +4,13 @@ use crate::tests::answers::{Answer, push, push_answer};
 use crate::tests::hooks::{add_plan, layers};
 use crate::tests::play::{Play, SMALL, Transcript, ends};
 use crate::tests::{strangers, told_again};
+use span_component_tests::lines::shown;
+use span_component_tests::plans::EVERYTHING;
+use span_component_tests::watch::Refused;
 use span_core::Core;
 use span_id::Limits;
 use span_layers::{Kind, Layers};
 use span_outlet::{Drain, Ring};
-use span_parts_tests::lines::shown;
-use span_parts_tests::plans::EVERYTHING;
-use span_parts_tests::watch::Refused;
 use std::alloc::Global;
 use std::process::Abort;
 
@@ -19,7 +19,7 @@ fn drain_on(drain: &mut Drain, steps: u32) -> Answer {
     for _ in 0..steps {
         drain.step();
     }
-    Answer::Drained([drain.taken(), drain.refused(), drain.all().len() as u64])
+    Answer::Drained([drain.taken(), drain.missed(), drain.all().len() as u64])
 }
 
 fn answer(
@@ -84,7 +84,7 @@ pub(crate) fn played_on_ring(
     Transcript {
         text,
         open: core.len(),
-        missed: drain.refused(),
+        missed: drain.missed(),
     }
 }
 

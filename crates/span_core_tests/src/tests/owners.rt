@@ -4,12 +4,12 @@ use crate::tests::acts::{Act, perform};
 use crate::tests::compare::{holds, same};
 use crate::tests::hooks::hooks;
 use crate::tests::on_a_ring::ringed;
+use span_component_tests::plans::{EVERYTHING, add};
+use span_component_tests::watch::{Noting, Refused, Watch};
 use span_core::Core;
 use span_id::{Level, Limits};
 use span_layers::Layers;
 use span_outlet::{Drain, Ring};
-use span_parts_tests::plans::{EVERYTHING, add};
-use span_parts_tests::watch::{Noting, Refused, Watch};
 use std::alloc::Global;
 use std::process::Abort;
 

@@ -7,11 +7,11 @@ use crate::tests::compare::same;
 use crate::tests::holding::push_asked;
 use crate::tests::hooks::layers;
 use crate::tests::sharing::are_shared;
+use span_component_tests::plans::Plan;
 use span_core::Core;
 use span_id::Limits;
 use span_layers::{Filters, Say};
 use span_outlet::Kept;
-use span_parts_tests::plans::Plan;
 use std::alloc::Global;
 use std::process::Abort;
 
@@ -134,7 +134,7 @@ pub(crate) fn played_on<V: Say>(
 pub(crate) fn written<V: Say>(core: Core<Kept<V>>, text: Vec<u8>) -> Transcript {
     let open = core.len();
     let kept = core.into_outlet();
-    let missed = kept.refused();
+    let missed = kept.missed();
     Transcript { text, open, missed }
 }
 

@@ -2,9 +2,9 @@
 use crate::tests::acts::Act;
 use crate::tests::play::{Play, THREE_WORKERS, plays};
 use crate::tests::{chain, closing_lists, sharing, workers};
+use span_component_tests::plans::{EVERYTHING, Plan, Wanted};
 use span_id::{Level, Limits};
 use span_layers::Form;
-use span_parts_tests::plans::{EVERYTHING, Plan, Wanted};
 
 const NO_KIND: Plan<'static> = (Form::Compact, Wanted::None, "", Level::Trace);
 
@@ -61,7 +61,8 @@ static SPANS_AND_EVENTS: [Play<'static>; 6] = [
             (0, Act::Exit(1)),
             (0, Act::Exit(1)),
         ],
-        expected: "L0 new 1 w0 a\n= 1\nL0 enter 1 w0 a\n= entered\nL0 enter 1 w0 a\n= again\n= open\nL0 exit 1 w0 a\n= open\nL0 exit 1 w0 a\nL0 close 1 w0 a\n= closed\n",
+        expected: "L0 new 1 w0 a\n= 1\nL0 enter 1 w0 a\n= entered\nL0 enter 1 w0 a\n= again\n\
+            = open\nL0 exit 1 w0 a\n= open\nL0 exit 1 w0 a\nL0 close 1 w0 a\n= closed\n",
     },
     // Each layer has its own path. A span of another target below the first one, and an event and a span below it.
     Play {
@@ -83,7 +84,9 @@ static SPANS_AND_EVENTS: [Play<'static>; 6] = [
             (0, Act::Close(3)),
             (0, Act::Close(2)),
         ],
-        expected: "L0 new 1 w0 a\nL1 new 1 w0 a\n= 1\n= entered\nL0 new 2 w0 a:q\n= 2\n= entered\nL0 new 3 w0 a:q:c\nL1 new 3 w0 a:c\n= 3\nL0 event 2 w0 a:q INFO hi k=v\nL1 event 1 w0 a INFO hi k=v\n= told\n= open\n= open\n= open\n= closed\n= closed\n",
+        expected: "L0 new 1 w0 a\nL1 new 1 w0 a\n= 1\n= entered\nL0 new 2 w0 a:q\n= 2\n= entered\n\
+            L0 new 3 w0 a:q:c\nL1 new 3 w0 a:c\n= 3\nL0 event 2 w0 a:q INFO hi k=v\n\
+            L1 event 1 w0 a INFO hi k=v\n= told\n= open\n= open\n= open\n= closed\n= closed\n",
     },
     // An event is told under its parent. Under `q`, which the second layer refused, it sees an event in no span. The
     // event under a span whose count is at its greatest is told and holds nothing, and under a closed one none is told.
@@ -119,7 +122,13 @@ static SPANS_AND_EVENTS: [Play<'static>; 6] = [
             (0, Act::Close(2)),
             (0, Act::Close(3)),
         ],
-        expected: "= 1\n= cloned\n= entered\nL0 event 1 w0 a INFO full\nL1 event 1 w0 a INFO full\n= told\n= found 2 1 3 0\n= open\n= 2\n= entered\n= 3\n= open\n= entered\nL0 event 3 w0 b:q INFO refused\nL1 event 0 w0 - INFO refused\n= told\nL0 event 2 w0 b INFO beside\nL1 event 2 w0 b INFO beside\n= told\nL0 event 2 w1 b INFO elsewhere\nL1 event 2 w1 b INFO elsewhere\n= told\nL0 event 0 w0 - INFO nowhere\nL1 event 0 w0 - INFO nowhere\n= told\n= open\n= open\n= closed\n! unknown\n= open\n= closed\n",
+        expected: "= 1\n= cloned\n= entered\nL0 event 1 w0 a INFO full\n\
+            L1 event 1 w0 a INFO full\n= told\n= found 2 1 3 0\n= open\n= 2\n= entered\n= 3\n\
+            = open\n= entered\nL0 event 3 w0 b:q INFO refused\nL1 event 0 w0 - INFO refused\n\
+            = told\nL0 event 2 w0 b INFO beside\nL1 event 2 w0 b INFO beside\n= told\n\
+            L0 event 2 w1 b INFO elsewhere\nL1 event 2 w1 b INFO elsewhere\n= told\n\
+            L0 event 0 w0 - INFO nowhere\nL1 event 0 w0 - INFO nowhere\n= told\n= open\n= open\n\
+            = closed\n! unknown\n= open\n= closed\n",
     },
 ];
 
@@ -178,7 +187,14 @@ static WANTED_AND_REFUSED: [Play<'static>; 5] = [
             (0, Act::Event("app", Level::Warn, "x\ny", &[])),
             (0, Act::Close(1)),
         ],
-        expected: "L0 {\"fields\":[[\"k\",\"1\"]],\"id\":1,\"kind\":\"new\",\"path\":\"a\",\"worker\":0}\nL1 new 1 w0 a k=1\n= 1\nL0 {\"fields\":[[\"k\",\"2\"]],\"id\":1,\"kind\":\"record\",\"path\":\"a\",\"worker\":0}\nL1 record 1 w0 a k=2\n= recorded\nL0 {\"fields\":[],\"id\":0,\"kind\":\"event\",\"level\":\"WARN\",\"message\":\"x\\ny\",\"path\":\"-\",\"worker\":0}\nL1 event 0 w0 - WARN x\\ny\n= told\nL0 {\"fields\":[[\"k\",\"1\"],[\"k\",\"2\"]],\"id\":1,\"kind\":\"close\",\"path\":\"a\",\"worker\":0}\nL1 close 1 w0 a k=1 k=2\n= closed\n",
+        expected: "L0 {\"fields\":[[\"k\",\"1\"]],\"id\":1,\"kind\":\"new\",\"path\":\"a\",\"worker\":0}\n\
+            L1 new 1 w0 a k=1\n= 1\n\
+            L0 {\"fields\":[[\"k\",\"2\"]],\"id\":1,\"kind\":\"record\",\"path\":\"a\",\"worker\":0}\n\
+            L1 record 1 w0 a k=2\n= recorded\n\
+            L0 {\"fields\":[],\"id\":0,\"kind\":\"event\",\"level\":\"WARN\",\"message\":\"x\\ny\",\"path\":\"-\",\"worker\":0}\n\
+            L1 event 0 w0 - WARN x\\ny\n= told\n\
+            L0 {\"fields\":[[\"k\",\"1\"],[\"k\",\"2\"]],\"id\":1,\"kind\":\"close\",\"path\":\"a\",\"worker\":0}\n\
+            L1 close 1 w0 a k=1 k=2\n= closed\n",
     },
     // Refusals come in their order.
     Play {

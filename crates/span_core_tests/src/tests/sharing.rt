@@ -2,10 +2,10 @@
 use crate::tests::acts::Act;
 use crate::tests::compare::holds;
 use crate::tests::play::{Play, SMALL, played};
+use span_component_tests::plans::{EVERYTHING, Plan, Wanted};
 use span_id::Level;
 use span_layers::{Form, Note};
 use span_outlet::{Batch, Call};
-use span_parts_tests::plans::{EVERYTHING, Plan, Wanted};
 use std::sync::ArcStr;
 
 // How many notes share the text of the first one's path.
@@ -143,5 +143,7 @@ pub(crate) const DASH: Play<'static> = Play {
         (0, Act::Close(1)),
         (0, Act::Close(2)),
     ],
-    expected: "L0 new 1 w0 -\n= 1\nL0 enter 1 w0 -\n= entered\nL0 new 2 w0 -:x\nL1 new 2 w0 x\n= 2\nL0 exit 1 w0 -\n= open\n= open\nL0 close 2 w0 -:x\nL1 close 2 w0 x\nL0 close 1 w0 -\n= closed\n",
+    expected: "L0 new 1 w0 -\n= 1\nL0 enter 1 w0 -\n= entered\nL0 new 2 w0 -:x\nL1 new 2 w0 x\n\
+        = 2\nL0 exit 1 w0 -\n= open\n= open\nL0 close 2 w0 -:x\nL1 close 2 w0 x\nL0 close 1 w0 -\n\
+        = closed\n",
 };

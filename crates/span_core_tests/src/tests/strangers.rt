@@ -1,9 +1,9 @@
 //! Strangers' ids: ids of every kind that no span has, in every call that takes an id.
 use crate::tests::acts::{Act, Calls, Ids};
 use crate::tests::play::Play;
+use span_component_tests::plans::EVERYTHING;
+use span_component_tests::values::STRANGERS;
 use span_id::Limits;
-use span_parts_tests::plans::EVERYTHING;
-use span_parts_tests::values::STRANGERS;
 
 const LIMITS: Limits = Limits {
     slots: 4,

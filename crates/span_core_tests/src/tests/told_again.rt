@@ -1,9 +1,9 @@
 //! Paths that are told again at a span whose layers are so many that the paths of two take each other's place.
 use crate::tests::acts::Act;
 use crate::tests::play::{Play, SMALL};
+use span_component_tests::plans::{EVERYTHING, Plan, Wanted};
 use span_id::{Level, Limits};
 use span_layers::Form;
-use span_parts_tests::plans::{EVERYTHING, Plan, Wanted};
 
 const LIMITS: Limits = Limits { ring: 16, ..SMALL };
 
@@ -30,7 +30,13 @@ const ON_A_RING: [(u32, Act<'static>); 7] = [
 ];
 
 const ON_A_RING_ANSWERS: &str =
-    "= 1\n= entered\n= 2\n= entered\n= told\n= told\n= drained 6 0 21\n0 0 0 new 1 w0 q\n0 1 2 new 1 w0 q\n0 2 5 new 1 w0 q\n2 0 0 new 2 w0 q:b\n2 1 1 new 2 w0 b\n2 2 2 new 2 w0 q:b\n2 3 3 new 2 w0 b\n2 4 4 new 2 w0 b\n2 5 5 new 2 w0 q:b\n4 0 0 event 2 w0 q:b INFO hi\n4 1 1 event 2 w0 b INFO hi\n4 2 2 event 2 w0 q:b INFO hi\n4 3 3 event 2 w0 b INFO hi\n4 4 4 event 2 w0 b INFO hi\n4 5 5 event 2 w0 q:b INFO hi\n5 0 0 event 2 w0 q:b INFO hi\n5 1 1 event 2 w0 b INFO hi\n5 2 2 event 2 w0 q:b INFO hi\n5 3 3 event 2 w0 b INFO hi\n5 4 4 event 2 w0 b INFO hi\n5 5 5 event 2 w0 q:b INFO hi\n";
+    "= 1\n= entered\n= 2\n= entered\n= told\n= told\n= drained 6 0 21\n0 0 0 new 1 w0 q\n\
+        0 1 2 new 1 w0 q\n0 2 5 new 1 w0 q\n2 0 0 new 2 w0 q:b\n2 1 1 new 2 w0 b\n\
+        2 2 2 new 2 w0 q:b\n2 3 3 new 2 w0 b\n2 4 4 new 2 w0 b\n2 5 5 new 2 w0 q:b\n\
+        4 0 0 event 2 w0 q:b INFO hi\n4 1 1 event 2 w0 b INFO hi\n4 2 2 event 2 w0 q:b INFO hi\n\
+        4 3 3 event 2 w0 b INFO hi\n4 4 4 event 2 w0 b INFO hi\n4 5 5 event 2 w0 q:b INFO hi\n\
+        5 0 0 event 2 w0 q:b INFO hi\n5 1 1 event 2 w0 b INFO hi\n5 2 2 event 2 w0 q:b INFO hi\n\
+        5 3 3 event 2 w0 b INFO hi\n5 4 4 event 2 w0 b INFO hi\n5 5 5 event 2 w0 q:b INFO hi\n";
 
 // On a ring later calls share the texts.
 pub(crate) const KEPT_ON_A_RING: Play<'static> = Play {

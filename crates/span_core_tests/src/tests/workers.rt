@@ -1,9 +1,9 @@
 //! Several workers and layers with rules of their own.
 use crate::tests::acts::Act;
 use crate::tests::play::{Play, THREE_WORKERS};
+use span_component_tests::plans::{EVERYTHING, Wanted};
 use span_id::Level;
 use span_layers::Form;
-use span_parts_tests::plans::{EVERYTHING, Wanted};
 
 // The second layer admits spans of `app` up to INFO, the third those of `app.db` up to DEBUG.
 const QUERY: Act<'static> = Act::NewWith("query", "app.db", Level::Debug, &[]);

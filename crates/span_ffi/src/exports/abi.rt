@@ -33,7 +33,7 @@ const _: () = prove!(size_of::<SpanNote>() == 40);
 pub extern "C" fn span_abi_version() -> u32
     ensures { result ≡ abi_version }
 {
-    2
+    3
 }
 
 /// How many bytes each struct takes in this library.

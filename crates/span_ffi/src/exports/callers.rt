@@ -1,7 +1,6 @@
 //! Who calls, of which span, and under which one.
 ghost use Rattle.std.specs.Prelude.{◌≡◌, ◌≤◌, ◌↔◌, false, nat_lt, IsSome, IfSome, IfNone};
-ghost use Rattle.span_core.specs.Step.{is_open};
-ghost use Rattle.span_core.specs.Core.{has_handle};
+ghost use Rattle.span_core.specs.Step.{is_open, has_handle};
 ghost use Rattle.span_ffi.specs.Data.{said_parent};
 ghost use Rattle.span_ffi.specs.inside.Parents.{AreAlike};
 

@@ -4,7 +4,7 @@ ghost use Rattle.span_id.specs.Level.{verbosity};
 ghost use Rattle.span_forest.specs.Node.{node_of};
 ghost use Rattle.span_border.specs.Status.{meant};
 ghost use Rattle.span_border.specs.Ends.{OnHeld, Keeps};
-ghost use Rattle.span_border.specs.Buffers.{KeepsLength};
+ghost use Rattle.span_border.specs.Buffers.{KeepsNumbers};
 ghost use Rattle.span_ffi.specs.Registry.{OnCore};
 ghost use Rattle.span_ffi.specs.Details.{are_short, TellsSaid, TellsWhatWasSaid};
 
@@ -43,9 +43,9 @@ fn tell_span(
         (record { old = into.old; new = into.new; len = len.new }) result }
     ensures meta { Keeps (Some result) meta.old meta.new }
     ensures fields { Keeps (Some result) fields.old fields.new }
-    ensures count { KeepsLength (Some result) count.old count.new }
+    ensures count { KeepsNumbers (Some result) count.old count.new }
     ensures into { Keeps (Some result) into.old into.new }
-    ensures len { KeepsLength (Some result) len.old len.new }
+    ensures len { KeepsNumbers (Some result) len.old len.new }
 {
     let span_meta = span.meta.as_meta();
     let name = span_meta.name.as_str();
@@ -78,9 +78,9 @@ fn details(
         (record { old = into.old; new = into.new; len = len.new }) core.now result core.now }
     ensures meta { Keeps (Some result) meta.old meta.new }
     ensures fields { Keeps (Some result) fields.old fields.new }
-    ensures count { KeepsLength (Some result) count.old count.new }
+    ensures count { KeepsNumbers (Some result) count.old count.new }
     ensures into { Keeps (Some result) into.old into.new }
-    ensures len { KeepsLength (Some result) len.old len.new }
+    ensures len { KeepsNumbers (Some result) len.old len.new }
 {
     let Some(id) = id_of(core, id) else {
         return Status::Refused(Fault::Unknown);
@@ -112,9 +112,9 @@ pub extern "C" fn span_registry_details(
         (record { old = into.old; new = into.new; len = len.new }))) (meant result) registry.new.held }
     ensures meta { Keeps (meant result) meta.old meta.new }
     ensures fields { Keeps (meant result) fields.old fields.new }
-    ensures count { KeepsLength (meant result) count.old count.new }
+    ensures count { KeepsNumbers (meant result) count.old count.new }
     ensures into { Keeps (meant result) into.old into.new }
-    ensures len { KeepsLength (meant result) len.old len.new }
+    ensures len { KeepsNumbers (meant result) len.old len.new }
 {
     let Some(held) = registry.take(alloc) else {
         return Status::EmptyHandle.number();

@@ -2,7 +2,7 @@
 ghost use Rattle.std.specs.Prelude.{◌≡◌, Some, None, is_some, if◌then◌else◌};
 ghost use Rattle.span_border.specs.Status.{meant};
 ghost use Rattle.span_border.specs.Ends.{OnHeld, Keeps};
-ghost use Rattle.span_border.specs.Buffers.{KeepsLength};
+ghost use Rattle.span_border.specs.Buffers.{KeepsNumbers};
 ghost use Rattle.span_ffi.specs.Lines.{GivesLine, SkipsBatch, CountsLines};
 ghost use Rattle.span_ffi.specs.inside.Giving.{GivesFirst};
 
@@ -16,7 +16,7 @@ fn give_line(lines: &mut Lines, layer: &mut u32, into: &mut [u8], len: &mut usiz
     ensures line { GivesLine layer.new into.old into.new len.new lines.old result lines.new }
     ensures layer { Keeps (Some result) layer.old layer.new }
     ensures into { Keeps (Some result) into.old into.new }
-    ensures len { KeepsLength (Some result) len.old len.new }
+    ensures len { KeepsNumbers (Some result) len.old len.new }
 {
     lines.fill();
     give_first(lines, layer, into, len)
@@ -27,7 +27,7 @@ fn give_first(lines: &mut Lines, layer: &mut u32, into: &mut [u8], len: &mut usi
     ensures line { GivesFirst layer.new into.old into.new len.new lines.old result lines.new }
     ensures layer { Keeps (Some result) layer.old layer.new }
     ensures into { Keeps (Some result) into.old into.new }
-    ensures len { KeepsLength (Some result) len.old len.new }
+    ensures len { KeepsNumbers (Some result) len.old len.new }
 {
     let Some(line) = lines.peek() else {
         return Status::NoLine;
@@ -53,7 +53,7 @@ pub extern "C" fn span_drain_line(
     ensures line { OnHeld drain.old.held (GivesLine layer.new into.old into.new len.new) (meant result) drain.new.held }
     ensures layer { Keeps (meant result) layer.old layer.new }
     ensures into { Keeps (meant result) into.old into.new }
-    ensures len { KeepsLength (meant result) len.old len.new }
+    ensures len { KeepsNumbers (meant result) len.old len.new }
 {
     let Some(mut held) = drain.take(alloc) else {
         return Status::EmptyHandle.number();
@@ -100,17 +100,17 @@ pub extern "C" fn span_drain_counts(
     alloc: Global,
     drain: &mut SpanDrain,
     batches: &mut u64,
-    refused: &mut u64,
+    missed: &mut u64,
 ) -> u32
-    ensures counts { OnHeld drain.old.held (CountsLines batches.new refused.new) (meant result) drain.new.held }
+    ensures counts { OnHeld drain.old.held (CountsLines batches.new missed.new) (meant result) drain.new.held }
     ensures batches { Keeps (meant result) batches.old batches.new }
-    ensures refused { Keeps (meant result) refused.old refused.new }
+    ensures missed { Keeps (meant result) missed.old missed.new }
 {
     let Some(held) = drain.take(alloc) else {
         return Status::EmptyHandle.number();
     };
     *batches = held.lines.taken();
-    *refused = held.lines.refused();
+    *missed = held.lines.missed();
     drain.put(held);
     Status::Done.number()
 }

@@ -3,7 +3,7 @@ ghost use Rattle.std.specs.Prelude.{Some};
 ghost use Rattle.span_border.specs.Status.{meant};
 ghost use Rattle.span_ffi.specs.Registry.{OnCore};
 ghost use Rattle.span_border.specs.Ends.{OnHeld, Keeps};
-ghost use Rattle.span_border.specs.Buffers.{KeepsLength};
+ghost use Rattle.span_border.specs.Buffers.{KeepsNumbers};
 ghost use Rattle.span_ffi.specs.Holding.{held_as, TellsOpen, TellsHolders, TellsWorkers};
 
 use crate::data::SpanHeld;
@@ -18,7 +18,7 @@ use std::alloc::Global;
 fn open_ids(core: &RingCore, into: &mut [u64], len: &mut usize) -> Status
     ensures ids { TellsOpen into.old into.new len.new core.now result core.now }
     ensures into { Keeps (Some result) into.old into.new }
-    ensures len { KeepsLength (Some result) len.old len.new }
+    ensures len { KeepsNumbers (Some result) len.old len.new }
 {
     match core.open_spans() {
         Ok(ids) => write_ids(ids.as_slice(), into, len),
@@ -38,7 +38,7 @@ pub extern "C" fn span_registry_open_ids(
     ensures ids { OnHeld registry.old.held (OnCore (TellsOpen into.old into.new len.new)) (meant result)
         registry.new.held }
     ensures into { Keeps (meant result) into.old into.new }
-    ensures len { KeepsLength (meant result) len.old len.new }
+    ensures len { KeepsNumbers (meant result) len.old len.new }
 {
     let Some(held) = registry.take(alloc) else {
         return Status::EmptyHandle.number();
@@ -63,7 +63,7 @@ impl ToldOf<Held> for SpanHeld {
 fn holders_of(core: &RingCore, id: u64, into: &mut [SpanHeld], len: &mut usize) -> Status
     ensures holders { TellsHolders id into.old into.new len.new core.now result core.now }
     ensures into { Keeps (Some result) into.old into.new }
-    ensures len { KeepsLength (Some result) len.old len.new }
+    ensures len { KeepsNumbers (Some result) len.old len.new }
 {
     let Some(id) = id_of(core, id) else {
         return Status::Refused(Fault::Unknown);
@@ -88,7 +88,7 @@ pub extern "C" fn span_registry_holders_of(
     ensures holders { OnHeld registry.old.held (OnCore (TellsHolders id into.old into.new len.new)) (meant result)
         registry.new.held }
     ensures into { Keeps (meant result) into.old into.new }
-    ensures len { KeepsLength (meant result) len.old len.new }
+    ensures len { KeepsNumbers (meant result) len.old len.new }
 {
     let Some(held) = registry.take(alloc) else {
         return Status::EmptyHandle.number();
@@ -101,7 +101,7 @@ pub extern "C" fn span_registry_holders_of(
 fn workers_inside(core: &RingCore, id: u64, into: &mut [u32], len: &mut usize) -> Status
     ensures workers { TellsWorkers id into.old into.new len.new core.now result core.now }
     ensures into { Keeps (Some result) into.old into.new }
-    ensures len { KeepsLength (Some result) len.old len.new }
+    ensures len { KeepsNumbers (Some result) len.old len.new }
 {
     let Some(id) = id_of(core, id) else {
         return Status::Refused(Fault::Unknown);
@@ -129,7 +129,7 @@ pub extern "C" fn span_registry_workers_inside(
     ensures workers { OnHeld registry.old.held (OnCore (TellsWorkers id into.old into.new len.new)) (meant result)
         registry.new.held }
     ensures into { Keeps (meant result) into.old into.new }
-    ensures len { KeepsLength (meant result) len.old len.new }
+    ensures len { KeepsNumbers (meant result) len.old len.new }
 {
     let Some(held) = registry.take(alloc) else {
         return Status::EmptyHandle.number();

@@ -3,7 +3,7 @@ ghost use Rattle.std.specs.Prelude.{◌≡◌, true, Some};
 ghost use Rattle.span_layers.specs.Note.{plain_note};
 ghost use Rattle.span_border.specs.Status.{meant};
 ghost use Rattle.span_border.specs.Ends.{OnHeld, Keeps};
-ghost use Rattle.span_border.specs.Buffers.{KeepsLength};
+ghost use Rattle.span_border.specs.Buffers.{KeepsNumbers};
 ghost use Rattle.span_ffi.specs.Details.{are_short};
 ghost use Rattle.span_ffi.specs.Notes.{kind_number, level_number, message_in, note_numbers, TellsNote, GivesNote};
 ghost use Rattle.span_ffi.specs.inside.Giving.{GivesFirstNote};
@@ -31,25 +31,25 @@ fn kind_number(kind: Kind) -> u32
 }
 
 fn level_number(note: &Note) -> u32
-    ensures { result ≡ level_number (plain_note note.now).tail }
+    ensures { result ≡ level_number (plain_note note.now).event }
 {
-    match &note.tail {
+    match &note.event {
         Some((level, _)) => u32::from(level.verbosity()),
         None => 0,
     }
 }
 
 fn message_in(note: &Note) -> &str
-    ensures { result.now ≡ message_in (plain_note note.now).tail }
+    ensures { result.now ≡ message_in (plain_note note.now).event }
 {
-    match &note.tail {
+    match &note.event {
         Some((_, message)) => message.as_str(),
         None => "",
     }
 }
 
 fn note_numbers(batch: u64, note: &Note) -> SpanNote
-    requires { are_short ((plain_note note.now).path, message_in (plain_note note.now).tail) ≡ true }
+    requires { are_short ((plain_note note.now).path, message_in (plain_note note.now).event) ≡ true }
     ensures { result ≡ note_numbers batch (plain_note note.now) }
 {
     SpanNote {
@@ -76,11 +76,11 @@ fn tell_note(
     ensures note { TellsNote batch (plain_note note.now) told.new
         (record { old = fields.old; new = fields.new; len = count.new })
         (record { old = into.old; new = into.new; len = len.new }) result }
-    ensures told { Keeps (Some result) told.old told.new }
+    ensures told { KeepsNumbers (Some result) told.old told.new }
     ensures fields { Keeps (Some result) fields.old fields.new }
-    ensures count { KeepsLength (Some result) count.old count.new }
+    ensures count { KeepsNumbers (Some result) count.old count.new }
     ensures into { Keeps (Some result) into.old into.new }
-    ensures len { KeepsLength (Some result) len.old len.new }
+    ensures len { KeepsNumbers (Some result) len.old len.new }
 {
     let path = note.path.as_str();
     let message = message_in(note);
@@ -88,12 +88,12 @@ fn tell_note(
     let Some(texts) = texts_len(path, message, list) else {
         return Status::Refused(Fault::CountFull);
     };
+    *told = note_numbers(batch, note);
     *count = list.len();
     *len = texts;
     if list.len() > fields.len() || texts > into.len() {
         return Status::ShortBuffer;
     }
-    *told = note_numbers(batch, note);
     write_lengths(list, fields);
     write_texts(path, message, list, into);
     Status::Done
@@ -110,11 +110,11 @@ fn give_first_note(
 ) -> Status
     ensures note { GivesFirstNote told.new (record { old = fields.old; new = fields.new; len = count.new })
         (record { old = into.old; new = into.new; len = len.new }) lines.old result lines.new }
-    ensures told { Keeps (Some result) told.old told.new }
+    ensures told { KeepsNumbers (Some result) told.old told.new }
     ensures fields { Keeps (Some result) fields.old fields.new }
-    ensures count { KeepsLength (Some result) count.old count.new }
+    ensures count { KeepsNumbers (Some result) count.old count.new }
     ensures into { Keeps (Some result) into.old into.new }
-    ensures len { KeepsLength (Some result) len.old len.new }
+    ensures len { KeepsNumbers (Some result) len.old len.new }
 {
     let Some(line) = lines.peek() else {
         return Status::NoLine;
@@ -140,11 +140,11 @@ fn give_note(
 ) -> Status
     ensures note { GivesNote told.new (record { old = fields.old; new = fields.new; len = count.new })
         (record { old = into.old; new = into.new; len = len.new }) lines.old result lines.new }
-    ensures told { Keeps (Some result) told.old told.new }
+    ensures told { KeepsNumbers (Some result) told.old told.new }
     ensures fields { Keeps (Some result) fields.old fields.new }
-    ensures count { KeepsLength (Some result) count.old count.new }
+    ensures count { KeepsNumbers (Some result) count.old count.new }
     ensures into { Keeps (Some result) into.old into.new }
-    ensures len { KeepsLength (Some result) len.old len.new }
+    ensures len { KeepsNumbers (Some result) len.old len.new }
 {
     lines.fill();
     give_first_note(lines, told, fields, count, into, len)
@@ -152,8 +152,8 @@ fn give_note(
 
 /// Gives the next line out, as `span_drain_line` does, but tells its note in its place: the numbers of the note; how
 /// long the key and the value of each field are; and its texts, one after another: the path, an event's message, and
-/// each key and value. Where a buffer is too short it only tells how many fields and bytes they are, and the line stays
-/// the next one; likewise where a length is too great for its number, which is `CountFull`.
+/// each key and value. Where a buffer is too short it only tells the numbers, and how many fields and bytes there are. The
+/// line stays the next one then, and where a length is too great for its number, which is `CountFull`.
 #[unsafe(no_mangle)]
 pub extern "C" fn span_drain_note(
     alloc: Global,
@@ -167,11 +167,11 @@ pub extern "C" fn span_drain_note(
     ensures note { OnHeld drain.old.held (GivesNote told.new
         (record { old = fields.old; new = fields.new; len = count.new })
         (record { old = into.old; new = into.new; len = len.new })) (meant result) drain.new.held }
-    ensures told { Keeps (meant result) told.old told.new }
+    ensures told { KeepsNumbers (meant result) told.old told.new }
     ensures fields { Keeps (meant result) fields.old fields.new }
-    ensures count { KeepsLength (meant result) count.old count.new }
+    ensures count { KeepsNumbers (meant result) count.old count.new }
     ensures into { Keeps (meant result) into.old into.new }
-    ensures len { KeepsLength (meant result) len.old len.new }
+    ensures len { KeepsNumbers (meant result) len.old len.new }
 {
     let Some(mut held) = drain.take(alloc) else {
         return Status::EmptyHandle.number();

@@ -1,10 +1,10 @@
 -- How a new span comes in, for the functions inside this crate: no public clause cites it.
 use Rattle.std.specs.Prelude.{ℕ, ◌≡◌, ◌<◌, List, Option, None, IsSomeAnd, MatchOption}
-use Rattle.span_slots.specs.Table.{value_at}
+use Rattle.span_slots.specs.Table.{find}
 use Rattle.span_id.specs.declared.fault.Fault.{Fault}
 use Rattle.span_id.specs.declared.fault.Fault.TheVariants.{Unknown, CountFull}
 use Rattle.span_forest.specs.declared.span.Span.{Span}
-use Rattle.span_forest.specs.Spans.{Spans, find, IsOpen}
+use Rattle.span_forest.specs.Spans.{Spans, IsOpen}
 use Rattle.span_forest.specs.Count.{reference_count}
 
 -- the first two reasons why no span is added: the parent isn't open, else its count is at its greatest
@@ -17,7 +17,7 @@ WhyNoChild spans max_count parent _ = ⊥
 -- the parent, if there is one, is among the code's spans and its count may rise
 abbrev pub HasRoomAbove : List (ℕ × Span) → ℕ → Option ℕ → Type 0
 HasRoomAbove entries max_count parent =
-    MatchOption parent (Unit {0}) (λ p. IsSomeAnd (value_at entries p) (λ above. above.count < max_count))
+    MatchOption parent (Unit {0}) (λ p. IsSomeAnd (find entries p) (λ above. above.count < max_count))
 
 -- one handle alone holds the span
 pub record IsNew (span : Span) : Type 0 where

@@ -1,6 +1,6 @@
 -- What is always true of a forest and of the counts that its spans keep: no public clause cites it.
 use Rattle.std.specs.Prelude.{ℕ, ◌+◌, ◌-◌, ◌<◌, ◌≤◌, ◌≡◌, List, length, Some}
-use Rattle.span_slots.specs.Table.{value_at}
+use Rattle.span_slots.specs.Table.{find}
 use Rattle.span_forest.specs.declared.span.Span.{Span}
 use Rattle.span_forest.specs.declared.span.Holder.{Holder}
 use Rattle.span_forest.specs.declared.span.Holder.TheVariants.{Handle, Entry}
@@ -11,7 +11,7 @@ use Rattle.span_forest.specs.Forest.{IsForest}
 -- the `count` of each span is its reference count
 abbrev pub AreCounted : List (ℕ × Span) → Type 0
 AreCounted entries =
-    (id : ℕ) (span : Span) → value_at entries id ≡ Some span → span.count ≡ reference_count (nodes_of entries) id
+    (id : ℕ) (span : Span) → find entries id ≡ Some span → span.count ≡ reference_count (nodes_of entries) id
 
 -- a forest in which each count is written and something holds each span
 pub record IsSettled (entries : List (ℕ × Span)) : Type 0 where

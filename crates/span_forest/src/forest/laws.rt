@@ -2,18 +2,18 @@
 ghost use Rattle.std.specs.Prelude.{◌≡◌, ◌≢◌, ℕ, ◌<◌, ◌≤◌, ◌↔◌, ◌⊎◌, [], false, Some, None, IfSome, IsTrue, All, AllPairs, Contains, List, length, map, take};
 ghost use Rattle.std.specs.List.Sorted.{IsStrictlyIncreasing};
 ghost use Rattle.span_id.specs.Id.{id_of, slot_of, IsId};
-ghost use Rattle.span_slots.specs.Table.{IsIssued, IsFull};
+ghost use Rattle.span_slots.specs.Table.{IsIssued, IsFull, find, all_ids};
 ghost use Rattle.span_forest.specs.declared.span.Holder.{Holder};
 ghost use Rattle.span_forest.specs.Node.{Node};
 ghost use Rattle.span_forest.specs.Add.{with_span};
-ghost use Rattle.span_forest.specs.Spans.{find, IsOpen, IsOccupied, parent_of};
+ghost use Rattle.span_forest.specs.Spans.{IsOpen, IsOccupied, parent_of};
 ghost use Rattle.span_forest.specs.Walk.{walk, Ends};
 ghost use Rattle.span_forest.specs.Count.{holders_in, reference_count, total_held};
 ghost use Rattle.span_forest.specs.Live.{stands_in, is_live};
 ghost use Rattle.span_forest.specs.Forest.{IsForest, next_span_id, table_of};
 ghost use Rattle.span_forest.specs.Holders.{IsHeld, held_in};
 ghost use Rattle.span_forest.specs.declared.holding.Held.{Held};
-ghost use Rattle.span_forest.specs.Holding.{open_ids, held_spans, what_holds, releases_of, spans_after, AreHeld, given_back, IsGivenBack};
+ghost use Rattle.span_forest.specs.Holding.{held_spans, what_holds, releases_of, spans_after, AreHeld, given_back, IsGivenBack};
 ghost use Rattle.span_forest.specs.Release.{without_holder, closing_list, spans_left};
 
 use super::Forest;
@@ -184,9 +184,9 @@ pub fn what_is_held_stays_open(forest: &Forest)
 
 /// The list of the open spans has exactly the ids that are open, each once, by ascending slot.
 pub fn open_spans_are_listed_once(forest: &Forest)
-    ensures exact { (id : ℕ) → Contains (open_ids forest.now.spans) id ↔ IsOpen forest.now.spans id }
-    ensures once { AllPairs (λ first later. first ≢ later) (open_ids forest.now.spans) }
-    ensures ascending { IsStrictlyIncreasing (map slot_of (open_ids forest.now.spans)) }
+    ensures exact { (id : ℕ) → Contains (all_ids forest.now.spans) id ↔ IsOpen forest.now.spans id }
+    ensures once { AllPairs (λ first later. first ≢ later) (all_ids forest.now.spans) }
+    ensures ascending { IsStrictlyIncreasing (map slot_of (all_ids forest.now.spans)) }
 {
     each_slot_has_one_id(&forest.slots);
 }

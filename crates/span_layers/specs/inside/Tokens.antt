@@ -7,7 +7,7 @@ use Rattle.serde_json.specs.Data.{Data, array, number, string, unsigned}
 use Rattle.serde_json.specs.View.{items_of}
 use Rattle.serde_json.specs.Written.{outline}
 use Rattle.span_id.specs.Level.{level_name}
-use Rattle.span_layers.specs.Note.{Told, PlainNote, kind_name}
+use Rattle.span_layers.specs.Note.{EventText, PlainNote, kind_name}
 use Rattle.span_layers.specs.Text.{field_value}
 
 -- a writer got these tokens more, where the write is Ok; what its buffer held at the start stays
@@ -19,10 +19,10 @@ abbrev pub member_tokens : List ℕ → Data → List Token
 member_tokens name value = Token.key name ∷ json_tokens (outline value)
 
 -- an event's level and message
-abbrev pub told_tokens : Option Told → List Token
-told_tokens None = []
-told_tokens (Some told) =
-    member_tokens (codes "level") (string (level_name told.0)) ++ member_tokens (codes "message") (string told.1)
+abbrev pub event_tokens : Option EventText → List Token
+event_tokens None = []
+event_tokens (Some event) =
+    member_tokens (codes "level") (string (level_name event.level)) ++ member_tokens (codes "message") (string event.message)
 
 -- the bracket and the members that stand before an event's level and message
 abbrev pub start_tokens : PlainNote → List Token

@@ -3,8 +3,8 @@
 ghost use Rattle.std.specs.Prelude.{codes, ◌++◌};
 ghost use Rattle.std.specs.Arc.{arc_str_bytes};
 ghost use Rattle.serde_json.specs.Data.{number, string, unsigned};
-ghost use Rattle.span_layers.specs.Note.{shown, told_of};
-ghost use Rattle.span_layers.specs.inside.Tokens.{Appends, member_tokens, told_tokens};
+ghost use Rattle.span_layers.specs.Note.{shown, plain_event};
+ghost use Rattle.span_layers.specs.inside.Tokens.{Appends, member_tokens, event_tokens};
 
 use crate::note::{Kind, Note};
 use json::Writer;
@@ -27,10 +27,10 @@ pub(super) fn write_number(out: &mut Writer, name: &str, value: u64) -> Result<(
 }
 
 /// Writes an event's level and message, and of other notes nothing.
-pub(super) fn write_told(out: &mut Writer, note: &Note) -> Result<(), AllocError>
-    ensures { Appends result out.old out.new (told_tokens (shown note.now.kind (told_of arc_str_bytes note.now.tail))) }
+pub(super) fn write_event(out: &mut Writer, note: &Note) -> Result<(), AllocError>
+    ensures { Appends result out.old out.new (event_tokens (shown note.now.kind (plain_event arc_str_bytes note.now.event))) }
 {
-    match (note.kind, &note.tail) {
+    match (note.kind, &note.event) {
         (Kind::OnEvent, Some((level, message))) => {
             write_message(out, level.name(), message.as_str())
         }

@@ -13,7 +13,7 @@ use Rattle.span_outlet.specs.Posted.{plain_posted}
 
 -- the looks, the batches that it took, the lines that it gave out, and those that wait, in order
 abbrev pub reader_view : RingName → ℕ → List Form → List Posted → List PlainLine → List Line → ℕ → LineReaderView
-reader_view name looks forms taken given waiting refused =
+reader_view name looks forms taken given waiting missed =
     record {
       name = name;
       looks = looks;
@@ -21,7 +21,7 @@ reader_view name looks forms taken given waiting refused =
       taken = map plain_posted taken;
       given = given;
       waiting = map plain_line waiting;
-      refused = refused;
+      missed = missed;
     }
 
 -- the line is of a batch with these notes, and of the note at its place

@@ -1,5 +1,5 @@
 //! The calls, which take the lock.
-ghost use Rattle.std.specs.Prelude.{◌≡◌, ◌≢◌, ◌↔◌, ◌+◌, ◌-◌, ◌<◌, nat_lt, length, true, false, Some, None, IfOk, IfErr, OnOk, OnErr, IfSome, IfNone, IsSomeAnd, OnSome, MatchResult, MatchOption, IsTrue};
+ghost use Rattle.std.specs.Prelude.{◌≡◌, ◌≢◌, ◌↔◌, ◌+◌, ◌-◌, ◌<◌, true, false, Some, None, IfOk, IfErr, OnOk, OnErr, IfSome, IfNone, IsSomeAnd, OnSome, MatchResult, MatchOption, IsTrue};
 ghost use Rattle.span_forest.specs.Spans.{find, IsOpen};
 ghost use Rattle.span_forest.specs.Count.{reference_count};
 ghost use Rattle.span_registry.specs.Found.{IsFound};
@@ -202,9 +202,8 @@ impl<H: Ledger, C: Ledger, S: Setup, O: Outlet, A> Registry<H, C, S, O, A> {
     pub fn exit<R: Wait>(&self, rt: &R, worker: &mut Worker<H, C, S>, id: Id) -> Result<bool, Fault>
         ensures seen { IsPrefix worker.old.seen worker.new.seen }
         ensures own { MatchResult result (λ _. HasOneMore worker.old worker.new) (λ _. HasNoMore worker.old worker.new) }
-        ensures happened { IfOk result (λ closed. Happened S.limits S.rules worker.old worker.new (λ old new.
-            IsAccepted old (exit worker.old.number id) (exited (closed_by_exit old.world worker.old.number id)) new
-            × (closed ≡ nat_lt 0 (length (closed_by_exit old.world worker.old.number id))))) }
+        ensures happened { OnOk result (Happened S.limits S.rules worker.old worker.new (λ old new.
+            IsAccepted old (exit worker.old.number id) (exited (closed_by_exit old.world worker.old.number id)) new)) }
         ensures released { IfOk result (λ closed. Happened S.limits S.rules worker.old worker.new (λ old new.
             ClosesWhatNothingHolds old (exit worker.old.number id) new × (IsTrue closed ↔ (find new.world.spans id ≡ None))
             × (stack_of new.world worker.old.number ≡ without_last (stack_of old.world worker.old.number) id))) }
@@ -229,9 +228,8 @@ impl<H: Ledger, C: Ledger, S: Setup, O: Outlet, A> Registry<H, C, S, O, A> {
     ) -> Result<bool, RefusedClose<H, C, S>>
         ensures seen { IsPrefix worker.old.seen worker.new.seen }
         ensures own { MatchResult result (λ _. HasOneMore worker.old worker.new) (λ _. HasNoMore worker.old worker.new) }
-        ensures happened { IfOk result (λ closed. Happened S.limits S.rules worker.old worker.new (λ old new.
-            IsAccepted old (try_close worker.old.number handle.id) (released (closed_by_close old.world handle.id)) new
-            × (closed ≡ nat_lt 0 (length (closed_by_close old.world handle.id))))) }
+        ensures happened { OnOk result (Happened S.limits S.rules worker.old worker.new (λ old new.
+            IsAccepted old (try_close worker.old.number handle.id) (released (closed_by_close old.world handle.id)) new)) }
         ensures released { IfOk result (λ closed. Happened S.limits S.rules worker.old worker.new (λ old new.
             ClosesWhatNothingHolds old (try_close worker.old.number handle.id) new
             × (IsTrue closed ↔ (find new.world.spans handle.id ≡ None)))) }

@@ -3,7 +3,7 @@ ghost use Rattle.std.specs.Prelude.{◌≡◌, ◌↔◌, [], map, length, IfOk,
 ghost use Rattle.span_forest.specs.Spans.{find, IsOpen, WhyNotFound};
 ghost use Rattle.span_forest.specs.declared.span.Holder.TheVariants.{Entry};
 ghost use Rattle.span_forest.specs.Holders.{held_in};
-ghost use Rattle.span_forest.specs.Holding.{open_ids, held_spans, what_holds};
+ghost use Rattle.span_forest.specs.Holding.{all_ids, held_spans, what_holds};
 ghost use Rattle.span_core.specs.World.{workers_with};
 ghost use Rattle.span_core.specs.Details.{plain_details, details_of};
 ghost use mathlib.Core.List.{IsPrefix};
@@ -32,7 +32,7 @@ impl<H: Ledger, C: Ledger, S: Setup, O: Outlet, A> Registry<H, C, S, O, A> {
         ensures seen { IsPrefix worker.old.seen worker.new.seen }
         ensures own { HasNoMore worker.old worker.new }
         ensures happened { IfOk result (λ ids. Happened S.limits S.rules worker.old worker.new (λ old new.
-            (new ≡ old) × (ids.items ≡ open_ids old.world.spans))) }
+            (new ≡ old) × (ids.items ≡ all_ids old.world.spans))) }
         ensures was_refused { OnErr result (Happened S.limits S.rules worker.old worker.new (λ old new. new ≡ old)) }
         ensures worker { worker.new ≡ record worker.old { seen = worker.new.seen } }
         ensures memory { IfErr result (λ fault. fault ≡ Fault.Memory) }

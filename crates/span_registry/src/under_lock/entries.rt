@@ -1,5 +1,5 @@
 //! The calls that change a worker's stack.
-ghost use Rattle.std.specs.Prelude.{◌≡◌, ◌≢◌, ◌↔◌, nat_lt, length, None, IsTrue, IfOk, IfErr, OnOk, OnErr, MatchResult};
+ghost use Rattle.std.specs.Prelude.{◌≡◌, ◌≢◌, ◌↔◌, None, IsTrue, IfOk, IfErr, OnOk, OnErr, MatchResult};
 ghost use Rattle.span_id.specs.declared.fault.Fault.TheVariants.{Unknown};
 ghost use Rattle.span_forest.specs.Spans.{find};
 ghost use Rattle.span_outlet.specs.Request.{enter, entered, exit, exited};
@@ -18,7 +18,7 @@ use crate::locked::Locked;
 use crate::setup::Setup;
 use crate::with_seats;
 use crate::worker::Worker;
-use span_core::laws::{accepted_releases_close_what_nothing_holds, the_named_span_closes_first};
+use span_core::laws::accepted_releases_close_what_nothing_holds;
 use span_id::{Fault, Id};
 use span_outlet::Outlet;
 use std::sync::ledger::Ledger;
@@ -78,15 +78,12 @@ pub fn exit<H: Ledger, C: Ledger, S: Setup, O: Outlet, A>(
 ) -> Result<bool, Fault>
     ensures seen { IsPrefix worker.old.seen worker.new.seen }
     ensures own { MatchResult result (λ _. HasOneMore worker.old worker.new) (λ _. HasNoMore worker.old worker.new) }
-    ensures happened { IfOk result (λ closed. Happened S.limits S.rules worker.old worker.new (λ old new.
-        IsAccepted old (exit worker.old.number id) (exited (closed_by_exit old.world worker.old.number id)) new
-        × (closed ≡ nat_lt 0 (length (closed_by_exit old.world worker.old.number id))))) }
+    ensures happened { OnOk result (Happened S.limits S.rules worker.old worker.new (λ old new.
+        IsAccepted old (exit worker.old.number id) (exited (closed_by_exit old.world worker.old.number id)) new)) }
     ensures was_refused { IfErr result (λ fault. Happened S.limits S.rules worker.old worker.new (λ old new.
         IsRefused old (exit worker.old.number id) fault new)) }
     ensures step { OnOk result (IsAccepted locked.old (exit worker.old.number id)
         (exited (closed_by_exit locked.old.world worker.old.number id)) locked.new) }
-    ensures closed { IfOk result (λ closed. closed
-        ≡ nat_lt 0 (length (closed_by_exit locked.old.world worker.old.number id))) }
     ensures gone { IfOk result (λ closed. IsTrue closed ↔ (find locked.new.world.spans id ≡ None)) }
     ensures released { OnOk result (ClosesWhatNothingHolds locked.old (exit worker.old.number id) locked.new) }
     ensures was_released { IfOk result (λ closed. Happened S.limits S.rules worker.old worker.new (λ old new.
@@ -106,7 +103,6 @@ pub fn exit<H: Ledger, C: Ledger, S: Setup, O: Outlet, A>(
         calls,
         setup: _,
     } = locked;
-    the_named_span_closes_first(core);
     accepted_releases_close_what_nothing_holds(core);
     let closed = match with_seats::entries::exit(core, root, worker.number, id) {
         Ok(closed) => closed,

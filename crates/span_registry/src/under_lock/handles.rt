@@ -1,5 +1,5 @@
 //! The calls that make one more handle of a span or give one back.
-ghost use Rattle.std.specs.Prelude.{◌≡◌, ◌≢◌, ◌+◌, ◌-◌, ◌<◌, ◌↔◌, nat_lt, length, None, IsTrue, IfOk, IfErr, OnOk, OnErr, MatchResult};
+ghost use Rattle.std.specs.Prelude.{◌≡◌, ◌≢◌, ◌+◌, ◌-◌, ◌<◌, ◌↔◌, None, IsTrue, IfOk, IfErr, OnOk, OnErr, MatchResult};
 ghost use Rattle.span_id.specs.declared.fault.Fault.TheVariants.{Unknown, CountFull};
 ghost use Rattle.span_forest.specs.Spans.{find};
 ghost use Rattle.span_outlet.specs.Request.{clone_span, cloned, try_close, released};
@@ -15,7 +15,7 @@ use crate::refused_close::RefusedClose;
 use crate::setup::Setup;
 use crate::with_seats;
 use crate::worker::Worker;
-use span_core::laws::{accepted_releases_close_what_nothing_holds, the_named_span_closes_first};
+use span_core::laws::accepted_releases_close_what_nothing_holds;
 use span_id::Fault;
 use span_outlet::Outlet;
 use std::sync::ledger::Ledger;
@@ -83,14 +83,12 @@ pub fn try_close<H: Ledger, C: Ledger, S: Setup, O: Outlet, A>(
 ) -> Result<bool, RefusedClose<H, C, S>>
     ensures seen { IsPrefix worker.old.seen worker.new.seen }
     ensures own { MatchResult result (λ _. HasOneMore worker.old worker.new) (λ _. HasNoMore worker.old worker.new) }
-    ensures happened { IfOk result (λ closed. Happened S.limits S.rules worker.old worker.new (λ old new.
-        IsAccepted old (try_close worker.old.number handle.id) (released (closed_by_close old.world handle.id)) new
-        × (closed ≡ nat_lt 0 (length (closed_by_close old.world handle.id))))) }
+    ensures happened { OnOk result (Happened S.limits S.rules worker.old worker.new (λ old new.
+        IsAccepted old (try_close worker.old.number handle.id) (released (closed_by_close old.world handle.id)) new)) }
     ensures was_refused { IfErr result (λ refused. Happened S.limits S.rules worker.old worker.new (λ old new.
         IsRefused old (try_close worker.old.number handle.id) refused.fault new)) }
     ensures step { OnOk result (IsAccepted locked.old (try_close worker.old.number handle.id)
         (released (closed_by_close locked.old.world handle.id)) locked.new) }
-    ensures closed { IfOk result (λ closed. closed ≡ nat_lt 0 (length (closed_by_close locked.old.world handle.id))) }
     ensures gone { IfOk result (λ closed. IsTrue closed ↔ (find locked.new.world.spans handle.id ≡ None)) }
     ensures released { OnOk result (ClosesWhatNothingHolds locked.old (try_close worker.old.number handle.id) locked.new) }
     ensures was_released { IfOk result (λ closed. Happened S.limits S.rules worker.old worker.new (λ old new.
@@ -118,7 +116,6 @@ pub fn try_close<H: Ledger, C: Ledger, S: Setup, O: Outlet, A>(
         calls,
         setup: _,
     } = locked;
-    the_named_span_closes_first(core);
     accepted_releases_close_what_nothing_holds(core);
     let closed = match with_seats::handles::try_close(core, root, worker.number, id, seat) {
         Ok(closed) => closed,

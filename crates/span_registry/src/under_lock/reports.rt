@@ -47,11 +47,11 @@ pub fn finish_kept<H: Ledger, C: Ledger, S: Setup, V: Say + Drop, A: Drop>(
     ensures apart { (missed : List NumberedNote)
         → AreTold S.forms (numbered locked.sent) (map plain_line result.lines.items) missed
         → All (HasNoLine (map plain_line result.lines.items)) missed }
-    ensures whole { result.refused ≡ 0 → map plain_line result.lines.items ≡ lines_of S.forms locked.sent }
+    ensures whole { result.missed ≡ 0 → map plain_line result.lines.items ≡ lines_of S.forms locked.sent }
 {
     let (counts, kept) = end(locked, share);
-    let refused = kept.refused();
-    counts.report(kept.into_lines(), refused)
+    let missed = kept.missed();
+    counts.report(kept.into_lines(), missed)
 }
 
 /// Ends a registry whose outlet is a ring, with the whole share and the ring's drain, which first takes what still
@@ -80,13 +80,13 @@ pub fn finish<H: Ledger, C: Ledger, S: Setup, V: Say + Drop, A: Drop>(
     ensures apart { (missed : List NumberedNote)
         → AreTold drain.forms (numbered locked.sent) (map plain_line result.lines.items) missed
         → All (HasNoLine (map plain_line result.lines.items)) missed }
-    ensures whole_lines { result.refused ≡ 0 → map plain_line result.lines.items ≡ lines_of drain.forms locked.sent }
+    ensures whole_lines { result.missed ≡ 0 → map plain_line result.lines.items ≡ lines_of drain.forms locked.sent }
 {
     let mut drain = drain;
     let (counts, mut ring) = end(locked, share);
     drain.last(&mut ring);
-    let refused = drain.refused();
-    counts.report(drain.into_lines(), refused)
+    let missed = drain.missed();
+    counts.report(drain.into_lines(), missed)
 }
 
 /// Ends a registry whose outlet is a ring, with the whole share, beside the ring's line reader, from which nothing is
@@ -150,7 +150,7 @@ impl Counts {
     }
 
     // The report with these lines.
-    fn report(self, lines: Vec<Line>, refused: u64) -> Report
+    fn report(self, lines: Vec<Line>, missed: u64) -> Report
         ensures { result ≡ record {
           left = self.left;
           handles = self.handles;
@@ -159,7 +159,7 @@ impl Counts {
           made = self.made;
           closed = self.closed;
           lines = lines;
-          refused = refused;
+          missed = missed;
         } }
     {
         Report {
@@ -170,7 +170,7 @@ impl Counts {
             made: self.made,
             closed: self.closed,
             lines,
-            refused,
+            missed,
         }
     }
 }

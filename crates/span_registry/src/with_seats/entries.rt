@@ -1,5 +1,6 @@
 //! The calls that change a worker's stack.
-ghost use Rattle.std.specs.Prelude.{◌≡◌, ◌<◌, nat_lt, length, IfOk, IfErr, OnOk, MatchResult};
+ghost use Rattle.std.specs.Prelude.{◌≡◌, ◌↔◌, ◌<◌, None, IsTrue, IfOk, IfErr, OnOk, MatchResult};
+ghost use Rattle.span_forest.specs.Spans.{find};
 ghost use Rattle.span_outlet.specs.Request.{enter, entered, exit, exited};
 ghost use Rattle.span_core.specs.Step.{closed_by_exit};
 ghost use Rattle.span_core.specs.Core.{IsRefused};
@@ -10,7 +11,7 @@ use crate::handle::{Handle, take_seat};
 use crate::laws::what_was_sent_is_legal;
 use crate::setup::Setup;
 use span_core::Core;
-use span_core::laws::each_slot_has_one_open_span;
+use span_core::laws::{each_slot_has_one_open_span, the_named_span_closes_first};
 use span_id::{Fault, Id};
 use span_outlet::Outlet;
 use span_seats::{RootSeat, TableName};
@@ -51,11 +52,12 @@ pub(crate) fn exit<T: TableName, O: Outlet, A>(
     ensures seated { AreSeated root.new core.new }
     ensures accepted { OnOk result (MayBeCounted core.old (exit worker id)
         (exited (closed_by_exit core.old.world worker id)) core.new) }
-    ensures closed { IfOk result (λ closed. closed ≡ nat_lt 0 (length (closed_by_exit core.old.world worker id))) }
+    ensures gone { IfOk result (λ closed. IsTrue closed ↔ (find core.new.world.spans id ≡ None)) }
     ensures refused { IfErr result (λ fault. IsRefused core.old (exit worker id) fault core.new) }
 {
     what_was_sent_is_legal(core);
     each_slot_has_one_open_span(core);
+    the_named_span_closes_first(core);
     let closed = core.exit_with(worker, id, root, RootSeat::mark_closed)?;
     what_was_sent_is_legal(core);
     Ok(closed)

@@ -1,10 +1,10 @@
 //! The calls on a handle.
-ghost use Rattle.std.specs.Prelude.{◌≡◌, ◌≢◌, ℕ, ◌<◌, nat_lt, length, MatchResult};
+ghost use Rattle.std.specs.Prelude.{◌≡◌, ◌≢◌, ◌↔◌, ℕ, ◌<◌, None, IsTrue, MatchResult};
 ghost use Rattle.span_id.specs.Id.{slot_of};
 ghost use Rattle.span_id.specs.Meta.{plain_fields};
 ghost use Rattle.span_forest.specs.declared.span.Holder.TheVariants.{Handle};
 ghost use Rattle.span_forest.specs.Holders.{IsHeld};
-ghost use Rattle.span_forest.specs.Spans.{IsOpen};
+ghost use Rattle.span_forest.specs.Spans.{find, IsOpen};
 ghost use Rattle.span_forest.specs.Release.{closing_list};
 ghost use Rattle.span_outlet.specs.Request.{clone_span, cloned, record_fields, recorded, try_close, released};
 ghost use Rattle.span_registry.specs.inside.Seated.{AreSeated};
@@ -14,7 +14,7 @@ use crate::handle::take_seat;
 use crate::laws::what_was_sent_is_legal;
 use crate::setup::Setup;
 use span_core::Core;
-use span_core::laws::each_slot_has_one_open_span;
+use span_core::laws::{each_slot_has_one_open_span, the_named_span_closes_first};
 use span_id::{Fault, Field, Id};
 use span_outlet::Outlet;
 use span_seats::laws::two_handles_have_two_numbers;
@@ -86,12 +86,13 @@ pub(crate) fn try_close<T: TableName, O: Outlet, A>(
     ensures done { MatchResult result
         (λ closed. MayBeCounted core.old (try_close worker id)
         (released (closing_list core.old.world.spans id Handle)) core.new
-        × (closed ≡ nat_lt 0 (length (closing_list core.old.world.spans id Handle))))
+        × (IsTrue closed ↔ (find core.new.world.spans id ≡ None)))
         (λ e. IsRefusedWhereHeld core.old (try_close worker id) e.1 core.new × (e.0.id ≡ id)) }
 {
     root.join(seat);
     what_was_sent_is_legal(core);
     each_slot_has_one_open_span(core);
+    the_named_span_closes_first(core);
     match core.try_close_with(worker, id, root, RootSeat::mark_closed) {
         Ok(closed) => {
             what_was_sent_is_legal(core);

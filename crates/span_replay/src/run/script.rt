@@ -384,7 +384,7 @@ fn write_notes<V: Say>(latest: &Latest<V>, written: u64, text: &mut Vec<u8>) -> 
     ensures written { IfOk result (λ sent. sent ≡ length latest.now.sent) }
     ensures memory { IfErr result (λ stop. stop ≡ Stop.Memory) }
 {
-    if latest.refused() > 0 {
+    if latest.missed() > 0 {
         return Err(Stop::Memory);
     }
     let sent = latest.sent();

@@ -1,6 +1,6 @@
 -- How a new span is counted at its parent: no public clause cites it.
 use Rattle.std.specs.Prelude.{ℕ, ◌+◌, Option, Some, None}
-use Rattle.span_slots.specs.Table.{Table, value_at, with_value}
+use Rattle.span_slots.specs.Table.{Table, find, with_value}
 use Rattle.span_store.specs.declared.entry.Entry.{Entry}
 
 -- the table with one child more of a span that is there
@@ -12,4 +12,4 @@ child_at t parent (Some above) = record t {
 
 abbrev pub child_in : Table Entry → Option ℕ → Table Entry
 child_in t None = t
-child_in t (Some parent) = child_at t parent (value_at t.entries parent)
+child_in t (Some parent) = child_at t parent (find t.entries parent)

@@ -1,6 +1,6 @@
 -- What is always true of a store and of the counts that its entries keep: no public clause cites it.
-use Rattle.std.specs.Prelude.{ℕ, ◌+◌, ◌<◌, ◌≤◌, ◌≡◌, List, [], ◌∷◌, map, length, Some, None}
-use Rattle.span_slots.specs.Table.{Table, value_at}
+use Rattle.std.specs.Prelude.{ℕ, ◌+◌, ◌<◌, ◌≤◌, ◌≡◌, List, map, length, Some}
+use Rattle.span_slots.specs.Table.{Table, find, AreApart}
 use Rattle.span_slots.proofs.Issued.{IsKept}
 use Rattle.span_store.specs.declared.entry.Entry.{Entry}
 use Rattle.span_store.specs.StoredSpan.{StoredSpan, plain_entry}
@@ -20,20 +20,15 @@ span_table t = record {
   freed = t.freed;
 }
 
--- no id stands twice
-abbrev pub AreApart : {T : Type 0} → List (ℕ × T) → Type 0
-AreApart [] = Unit {0}
-AreApart (e ∷ es) = (value_at es e.0 ≡ None) × AreApart es
-
 -- the child counts in the code are the numbers of children
 abbrev pub AreCounted : List (ℕ × Entry) → Type 0
 AreCounted entries =
-    (id : ℕ) (entry : Entry) → value_at entries id ≡ Some entry → entry.children ≡ children_there (spans_of entries) id
+    (id : ℕ) (entry : Entry) → find entries id ≡ Some entry → entry.children ≡ children_there (spans_of entries) id
 
 -- no count is above the greatest one
 abbrev pub AreBounded : List (ℕ × Entry) → ℕ → Type 0
 AreBounded entries max_count =
-    (id : ℕ) (entry : Entry) → value_at entries id ≡ Some entry → entry.handles + entry.children ≤ max_count
+    (id : ℕ) (entry : Entry) → find entries id ≡ Some entry → entry.handles + entry.children ≤ max_count
 
 -- each parent is there, and by some ranks of the ids below its children
 pub record IsForest (spans : StoredSpans) : Type 0 where

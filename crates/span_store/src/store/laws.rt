@@ -6,7 +6,7 @@ ghost use Rattle.std.specs.Prelude.{◌≡◌, ◌≢◌, ℕ, ◌+◌, ◌<◌,
 ghost use Rattle.std.specs.List.Sorted.{IsStrictlyIncreasing};
 ghost use Rattle.span_id.specs.Id.{IsId, slot_of};
 ghost use Rattle.span_id.specs.declared.fault.Fault.TheVariants.{Unknown};
-ghost use Rattle.span_slots.specs.Table.{value_at, id_from, ids_from, next_id, IsIssued};
+ghost use Rattle.span_slots.specs.Table.{find, id_from, ids_from, next_id, IsIssued};
 ghost use Rattle.span_store.specs.StoredSpan.{StoredSpan, added_span};
 ghost use Rattle.span_store.specs.StoredSpans.{IsThere, IsStillHeld, IsClosing, parent_there, count, all_handles};
 ghost use Rattle.span_store.specs.Details.{all_details};
@@ -38,7 +38,7 @@ pub fn each_span_is_told_once(store: &Store)
 /// A closing span stays there as it is, and closing, however many calls later, until `ended` is called for it.
 pub fn closing_spans_stay_until_their_end(store: &Store)
     ensures same { (id : ℕ) (calls : List Call) → IsClosing store.now.table.entries id → NeverEnds id calls →
-        value_at (store_after_all store.now calls).table.entries id ≡ value_at store.now.table.entries id }
+        find (store_after_all store.now calls).table.entries id ≡ find store.now.table.entries id }
     ensures closing { (id : ℕ) (calls : List Call) → IsClosing store.now.table.entries id → NeverEnds id calls →
         IsClosing (store_after_all store.now calls).table.entries id }
 {
@@ -61,7 +61,7 @@ pub fn closing_spans_are_held_by_nobody(store: &Store)
 /// An id that ended finds nothing ever again, however many calls later, and no call gives it again.
 pub fn ended_ids_never_come_back(store: &Store)
     ensures gone { (id : ℕ) (calls : List Call) → IsClosing store.now.table.entries id →
-        value_at (store_after_all (store_after store.now (Ended id)) calls).table.entries id ≡ None }
+        find (store_after_all (store_after store.now (Ended id)) calls).table.entries id ≡ None }
     ensures never_given { (id : ℕ) (calls : List Call) → IsClosing store.now.table.entries id →
         next_id (store_after_all (store_after store.now (Ended id)) calls).table ≢ Some id }
 {
@@ -150,14 +150,14 @@ pub fn spans_are_told_once(store: &Store)
 /// however many calls later.
 pub fn a_span_keeps_what_it_was_made_with(store: &Store)
     ensures parent { (id : ℕ) (calls : List Call) (first last : StoredSpan) →
-        value_at store.now.table.entries id ≡ Some first →
-        value_at (store_after_all store.now calls).table.entries id ≡ Some last → last.parent ≡ first.parent }
+        find store.now.table.entries id ≡ Some first →
+        find (store_after_all store.now calls).table.entries id ≡ Some last → last.parent ≡ first.parent }
     ensures bits { (id : ℕ) (calls : List Call) (first last : StoredSpan) →
-        value_at store.now.table.entries id ≡ Some first →
-        value_at (store_after_all store.now calls).table.entries id ≡ Some last → last.bits ≡ first.bits }
+        find store.now.table.entries id ≡ Some first →
+        find (store_after_all store.now calls).table.entries id ≡ Some last → last.bits ≡ first.bits }
     ensures word { (id : ℕ) (calls : List Call) (first last : StoredSpan) →
-        value_at store.now.table.entries id ≡ Some first →
-        value_at (store_after_all store.now calls).table.entries id ≡ Some last → last.word ≡ first.word }
+        find store.now.table.entries id ≡ Some first →
+        find (store_after_all store.now calls).table.entries id ≡ Some last → last.word ≡ first.word }
 {
     let _opened = &store.slots;
 }
@@ -167,16 +167,16 @@ pub fn a_span_keeps_what_it_was_made_with(store: &Store)
 pub fn calls_change_their_span_alone(store: &Store)
     ensures added { (parent : Option ℕ) (bits word id : ℕ) → refusal store.now (Add parent bits word) ≡ None →
         next_id store.now.table ≡ Some id →
-        value_at (store_after store.now (Add parent bits word)).table.entries id ≡ Some (added_span parent bits word) }
+        find (store_after store.now (Add parent bits word)).table.entries id ≡ Some (added_span parent bits word) }
     ensures others { (parent : Option ℕ) (bits word other : ℕ) → next_id store.now.table ≢ Some other →
-        value_at (store_after store.now (Add parent bits word)).table.entries other
-        ≡ value_at store.now.table.entries other }
+        find (store_after store.now (Add parent bits word)).table.entries other
+        ≡ find store.now.table.entries other }
     ensures keep { (id other : ℕ) → other ≢ id →
-        value_at (store_after store.now (Keep id)).table.entries other ≡ value_at store.now.table.entries other }
+        find (store_after store.now (Keep id)).table.entries other ≡ find store.now.table.entries other }
     ensures release { (id other : ℕ) → other ≢ id →
-        value_at (store_after store.now (Release id)).table.entries other ≡ value_at store.now.table.entries other }
+        find (store_after store.now (Release id)).table.entries other ≡ find store.now.table.entries other }
     ensures ended { (id other : ℕ) → other ≢ id →
-        value_at (store_after store.now (Ended id)).table.entries other ≡ value_at store.now.table.entries other }
+        find (store_after store.now (Ended id)).table.entries other ≡ find store.now.table.entries other }
 {
     let _opened = &store.slots;
 }

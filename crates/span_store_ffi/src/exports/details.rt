@@ -2,7 +2,7 @@
 ghost use Rattle.std.specs.Prelude.{Some};
 ghost use Rattle.span_border.specs.Status.{meant};
 ghost use Rattle.span_border.specs.Ends.{OnHeld, Keeps};
-ghost use Rattle.span_border.specs.Buffers.{KeepsLength};
+ghost use Rattle.span_border.specs.Buffers.{KeepsNumbers};
 ghost use Rattle.span_store_ffi.specs.Details.{details_as, TellsDetails};
 
 use crate::data::SpanStoreDetails;
@@ -29,7 +29,7 @@ impl ToldOf<SpanDetails> for SpanStoreDetails {
 fn details(store: &Store, into: &mut [SpanStoreDetails], len: &mut usize) -> Status
     ensures details { TellsDetails into.old into.new len.new store.now result store.now }
     ensures into { Keeps (Some result) into.old into.new }
-    ensures len { KeepsLength (Some result) len.old len.new }
+    ensures len { KeepsNumbers (Some result) len.old len.new }
 {
     match store.span_details() {
         Ok(details) => write_told(details.as_slice(), into, len),
@@ -48,7 +48,7 @@ pub extern "C" fn span_store_details(
 ) -> u32
     ensures details { OnHeld store.old.held (TellsDetails into.old into.new len.new) (meant result) store.new.held }
     ensures into { Keeps (meant result) into.old into.new }
-    ensures len { KeepsLength (meant result) len.old len.new }
+    ensures len { KeepsNumbers (meant result) len.old len.new }
 {
     let Some(held) = store.take(alloc) else {
         return Status::EmptyHandle.number();

@@ -5,4 +5,4 @@ use Rattle.span_storm.specs.declared.numbers.Row.{Row}
 
 -- a line for each row
 abbrev pub text_of_rows : List Row → List ℕ
-text_of_rows rows = flat_map (λ row. number_line row.label.now row.number) rows
+text_of_rows rows = flat_map (λ row. number_line row.0.now row.1) rows

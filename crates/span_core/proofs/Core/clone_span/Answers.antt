@@ -4,9 +4,11 @@ use Rattle.span_forest.specs.declared.span.Holder.TheVariants.{Handle}
 use Rattle.span_forest.specs.Holders.{IsHeld, with_more}
 use Rattle.span_stack.specs.Stack.{ids_of_each}
 use Rattle.span_outlet.specs.Request.{clone_span, cloned}
-use Rattle.span_core.specs.Core.{CoreView, has_handle}
+use Rattle.span_core.specs.Step.{has_handle}
+use Rattle.span_core.specs.Core.{CoreView}
 use Rattle.span_core.proofs.Made.{none_made}
 use Rattle.span_core.proofs.Deciding.{held_from}
+use Rattle.span_core.proofs.Judging.{tests_of}
 use Rattle.span_core.proofs.Soundness.{IsOneMore, put_on, sound_kept}
 use Rattle.span_core.proofs.Accepting.{step_clone}
 use Rattle.span_core.proofs.Clauses.{accepted_by}
@@ -21,7 +23,7 @@ within g c = omega (arith, c.requires, ap (λ (v : CoreView). v.limits.workers) 
 
 held : (g : given.Over) (c : After-put g) → IsHeld c.self.inside.forest.spans c.args.id Handle
 held g c =
-    held_from c.self.inside.forest.spans c.args.id (subst (λ (v : CoreView). has_handle v.world.spans c.args.id ≡ true) (sym c.self.view_is) c.in_ok-cloning.ensures.due.known)
+    held_from c.self.inside.forest.spans c.args.id (subst (λ (v : CoreView). has_handle v.world.spans c.args.id ≡ true) (sym c.self.view_is) (tests_of c.args.self.now (clone_span c.args.worker c.args.id) c.in_ok-cloning.ensures.due).known)
 
 call : (g : given.Over) (c : After-put g) → IsOneMore c.self.inside.rules (g.O.Outlet.sent c.self.inside.outlet) (record { spans = c.self.inside.forest.spans; stacks = ids_of_each c.self.inside.stacks.items })
     (record { request = clone_span c.args.worker c.args.id; answer = cloned; notes = map plain_note c.new.result.items })

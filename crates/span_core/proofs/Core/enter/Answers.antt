@@ -5,11 +5,13 @@ use Rattle.span_forest.specs.declared.span.Holder.TheVariants.{Handle}
 use Rattle.span_forest.specs.Holders.{IsHeld}
 use Rattle.span_stack.specs.Stack.{has, ids_of_each}
 use Rattle.span_outlet.specs.Request.{enter, entered}
+use Rattle.span_core.specs.Step.{has_handle}
 use Rattle.span_core.specs.World.{stack_of}
-use Rattle.span_core.specs.Core.{CoreView, has_handle}
+use Rattle.span_core.specs.Core.{CoreView}
 use Rattle.span_core.specs.Happening.{at_span, notes_of, notes_of_all}
 use Rattle.span_core.proofs.Made.{none_made}
 use Rattle.span_core.proofs.Deciding.{held_from}
+use Rattle.span_core.proofs.Judging.{tests_of}
 use Rattle.span_core.proofs.Soundness.{IsOneMore, put_on, sound_kept}
 use Rattle.span_core.proofs.Accepting.{step_enter}
 use Rattle.span_core.proofs.Telling.{one_happening}
@@ -25,7 +27,7 @@ within g c = omega (arith, c.requires, ap (λ (v : CoreView). v.limits.workers) 
 
 held : (g : given.Over) (c : After-put g) → IsHeld c.self.inside.forest.spans c.args.id Handle
 held g c =
-    held_from c.self.inside.forest.spans c.args.id (subst (λ (v : CoreView). has_handle v.world.spans c.args.id ≡ true) (sym c.self.view_is) c.in_ok-entering.ensures.due.known)
+    held_from c.self.inside.forest.spans c.args.id (subst (λ (v : CoreView). has_handle v.world.spans c.args.id ≡ true) (sym c.self.view_is) (tests_of c.args.self.now (enter c.args.worker c.args.id) c.in_ok-entering.ensures.due).known)
 
 first : (g : given.Over) (c : After-put g) → c.in_ok-entering.entering.first ≡ not (has (get_or (ids_of_each c.self.inside.stacks.items) c.args.worker []) c.args.id)
 first g c =

@@ -19,6 +19,7 @@ use Rattle.span_core.proofs.Made.{none_made}
 use Rattle.span_core.proofs.Soundness.{IsOneMore, put_on, sound_kept}
 use Rattle.span_core.proofs.Telling.{event_notes}
 use Rattle.span_core.proofs.Clauses.{accepted_by}
+use Rattle.span_core.proofs.Judging.{tests_of}
 use Rattle.span_core.proofs.Core.event_given.Given as given
 use Rattle.span_core.proofs.Core.event_given.Goals as goal
 use Rattle.span_core.proofs.Core.event_given.Goals.{After-self-1}
@@ -30,7 +31,7 @@ notes_told g c =
 
 parent_open : (g : given.Over) (c : After-self-1 g) → is_open_parent c.self.inside.forest.spans (parent_named c.args.given.now.parent) ≡ true
 parent_open g c =
-    subst (λ (v : CoreView). is_open_parent v.world.spans (parent_named c.args.given.now.parent) ≡ true) (sym c.self.view_is) c.in_ok-telling.ensures.due.known
+    subst (λ (v : CoreView). is_open_parent v.world.spans (parent_named c.args.given.now.parent) ≡ true) (sym c.self.view_is) (tests_of c.args.self.now (given_event c.args.worker c.args.given.now) c.in_ok-telling.ensures.due).known
 
 within : (g : given.Over) (c : After-self-1 g) → c.args.worker < length (ids_of_each c.self.inside.stacks.items)
 within g c = omega (arith, c.requires, ap (λ (v : CoreView). v.limits.workers) c.self.view_is, c.self.invariant.0.stacks_are)
@@ -56,7 +57,19 @@ world g c = record { spans = c.self.inside.forest.spans; stacks = ids_of_each c.
 call : (g : given.Over) (c : After-self-1 g) (mid longer : List PlainBatch) → mid ≡ g.O.Outlet.sent c.self.inside.outlet → longer ≡ mid ++ batch g c ∷ []
     → IsOneMore c.self.inside.rules (g.O.Outlet.sent c.self.inside.outlet) (world g c) (batch g c) (world g c) longer
 call g c mid longer same sent = record {
-  step = record { within = within g c; changes = record { parent_open = parent_open g c; after = refl }; notes_are = notes_told g c };
+  step = record {
+    within = within g c;
+    changes = record {
+      wanted = refl;
+      known = parent_open g c;
+      inside = refl;
+      id = 0;
+      answer_is = refl;
+      id_is_new = tt;
+      after = refl;
+    };
+    notes_are = notes_told g c;
+  };
   sent = put_on _ mid longer (batch g c) same sent;
 }
 

@@ -12,6 +12,7 @@ use Rattle.span_core.specs.inside.Sound.{IsSound}
 use Rattle.span_core.specs.inside.Summary.{IsSummary}
 use Rattle.span_core.specs.Core.{CoreView, IsDue}
 use Rattle.span_core.specs.Step.{is_open, closed_by_exit}
+use Rattle.span_core.proofs.Judging.{due_from}
 use Rattle.span_core.proofs.Made.{none_made}
 use Rattle.span_core.proofs.Soundness.{IsOneMore, put_on, sound_kept}
 use Rattle.span_core.proofs.Accepting.{step_exit}
@@ -37,14 +38,14 @@ stays g c =
     ∙ ap (λ (all : List (List ℕ)). has (without_last (get_or all c.args.worker []) c.args.id) c.args.id) (ap ids_of_each c.as_slice.ensures.value)
 
 due : (g : given.Over) (c : After-put g) → IsDue c.args.self.now (exit c.args.worker c.args.id)
-due g c = record {
+due g c = due_from c.args.self.now (exit c.args.worker c.args.id) (record {
   named = refl;
   wanted = refl;
   known = subst (λ (v : CoreView). is_open v.world.spans c.args.id ≡ true) c.self.view_is c.in-Some.ensures.open;
   counts = lt-ltb _ _ (omega (arith, c.self.invariant.0.calls_are, ap (λ (v : CoreView). length v.sent) c.self.view_is));
   slot = refl;
   inside = subst (λ (v : CoreView). has (stack_of v.world c.args.worker) c.args.id ≡ true) c.self.view_is (stands g c);
-}
+})
 
 list_is : (g : given.Over) (c : After-put g) → c.in_ok-closes.closes.ids.items ≡ closed_by_exit c.args.self.now.world c.args.worker c.args.id
 list_is g c =
@@ -75,7 +76,7 @@ call : (g : given.Over) (c : After-put g) → IsOneMore c.self.inside.rules (g.O
     (record { request = exit c.args.worker c.args.id; answer = exited c.in_ok-closes.closes.ids.items; notes = map plain_note c.in_ok-closes.closes.notes.items })
     (record { spans = c.leave.new.forest.spans; stacks = ids_of_each c.pop_at.new.stacks.items }) (g.O.Outlet.sent c.put.new.self)
 call g c = record {
-  step = step_exit _ _ _ _ _ _ c.args.worker c.args.id c.in-Some-stays_inside.stays _ _ (within g c) (stands g c) (stays g c)
+  step = step_exit _ _ _ _ _ _ c.args.worker c.args.id c.in-Some-stays_inside.stays _ _ (within g c) c.in-Some.ensures.open (stands g c) (stays g c)
       c.in_ok-closes.ensures.ids (ap (λ f. f.spans) c.leave.ensures.forest) c.pop_at.ensures c.in_ok-closes.ensures.notes;
   sent = put_on _ _ _ _ c.in_ok-ask.ensures.sent c.put.ensures.sent;
 }

@@ -1,6 +1,5 @@
-use Rattle.std.proofs.Common.{◌≡◌, ◌∙◌, ◌<◌, ◌-◌, ◌^◌, ℕ, Bool, ◌&&◌, true, false, [], ◌∷◌, ◌++◌, map, filter, length, Option, Some, None, ap, sym, refl, subst, arith}
+use Rattle.std.proofs.Common.{◌≡◌, ◌∙◌, ◌<◌, ℕ, true, [], ◌∷◌, ◌++◌, map, filter, length, Option, Some, None, ap, sym, refl, subst, arith}
 use Rattle.std.specs.Prelude.{IfSome}
-use Rattle.std.proofs.lemmas.Bool.{false≢true, ltb-true}
 use Rattle.std.specs.List.{range_with_len}
 use Rattle.span_id.specs.Id.{IsId}
 use Rattle.span_slots.specs.Table.{IsIssued}
@@ -14,7 +13,7 @@ use Rattle.span_forest.specs.Add.{with_span}
 use Rattle.span_stack.specs.Stack.{ids_of_each}
 use Rattle.span_outlet.specs.Request.{made}
 use Rattle.span_core.specs.Happening.{at_span, notes_of_all}
-use Rattle.span_core.specs.Step.{is_wanted_meta, made_node, is_open_parent}
+use Rattle.span_core.specs.Step.{is_wanted_meta, is_open_parent}
 use Rattle.span_core.specs.inside.Sound.{first_note, hears}
 use Rattle.span_core.specs.NextId.{next_id_after}
 use Rattle.span_core.specs.inside.Given.{meta_given, fields_given}
@@ -22,6 +21,7 @@ use Rattle.span_core.specs.inside.Lent.{span_request}
 use Rattle.span_core.specs.Core.{CoreView}
 use Rattle.span_core.proofs.Made.{few_made, one_made}
 use Rattle.span_core.proofs.Clauses.{accepted_by}
+use Rattle.span_core.proofs.Judging.{PassesTests, tests_of, one_more_fits}
 use Rattle.span_core.proofs.Soundness.{IsOneMore, sound_made}
 use Rattle.span_core.proofs.NewSpans.{step_new, new_notes, not_open, not_in_history}
 use Rattle.span_core.proofs.KeptSummaries.{summary_new}
@@ -29,12 +29,16 @@ use Rattle.span_core.proofs.Core.make.Given as given
 use Rattle.span_core.proofs.Core.make.Goals as goal
 use Rattle.span_core.proofs.Core.make.Goals.{After-put}
 
+-- all tests hold
+tests : (g : given.Over) (c : After-put g) → PassesTests c.args.self.now (span_request c.args.new.now)
+tests g c = tests_of c.args.self.now (span_request c.args.new.now) c.requires.due
+
 -- what holds of the core before the call, said of its parts
 wanted : (g : given.Over) (c : After-put g) → is_wanted_meta c.self.inside.rules (meta_given c.args.new.now.meta) ≡ true
-wanted g c = subst (λ (v : CoreView). is_wanted_meta v.rules (meta_given c.args.new.now.meta) ≡ true) (sym c.self.view_is) c.requires.due.wanted
+wanted g c = subst (λ (v : CoreView). is_wanted_meta v.rules (meta_given c.args.new.now.meta) ≡ true) (sym c.self.view_is) (tests g c).wanted
 
 parent_open : (g : given.Over) (c : After-put g) → is_open_parent c.self.inside.forest.spans c.args.new.now.parent ≡ true
-parent_open g c = subst (λ (v : CoreView). is_open_parent v.world.spans c.args.new.now.parent ≡ true) (sym c.self.view_is) c.requires.due.known
+parent_open g c = subst (λ (v : CoreView). is_open_parent v.world.spans c.args.new.now.parent ≡ true) (sym c.self.view_is) (tests g c).known
 
 bits_are : (g : given.Over) (c : After-put g) → c.args.new.now.bits.0 ≡ admission_set c.self.inside.rules (meta_given c.args.new.now.meta).target (meta_given c.args.new.now.meta).level
 bits_are g c = subst (λ (v : CoreView). c.args.new.now.bits.0 ≡ admission_set v.rules (meta_given c.args.new.now.meta).target (meta_given c.args.new.now.meta).level) (sym c.self.view_is) c.requires.bits
@@ -58,14 +62,14 @@ in_layout g c = subst (λ (o : Option ℕ). IfSome o IsId) (next g c) c.next_id_
 gone : (g : given.Over) (c : After-put g) → find c.self.inside.forest.spans c.args.new.now.id ≡ None
 gone g c = not_open c.self.inside.forest.spans c.args.new.now.id (IsIssued (table_of c.self.inside.forest) c.args.new.now.id) (c.each_slot_has_one_open_id.ensures.issued c.args.new.now.id) (never g c)
 
-forest_is : (g : given.Over) (c : After-put g) → c.add_span.new.forest ≡ with_span c.self.inside.forest c.args.new.now.id (made_node c.self.inside.rules (meta_given c.args.new.now.meta) (fields_given c.args.new.now.fields) c.args.new.now.parent)
+forest_is : (g : given.Over) (c : After-put g) → c.add_span.new.forest ≡ with_span c.self.inside.forest c.args.new.now.id (new_node (meta_given c.args.new.now.meta) (fields_given c.args.new.now.fields) c.args.new.now.parent (admission_set c.self.inside.rules (meta_given c.args.new.now.meta).target (meta_given c.args.new.now.meta).level))
 forest_is g c =
     c.in_ok-call.ensures.forest
     ∙ (λ j. with_span c.self.inside.forest c.args.new.now.id (new_node (meta_given c.args.new.now.meta) (fields_given c.args.new.now.fields) c.args.new.now.parent (bits_are g c j)))
 
 told : (g : given.Over) (c : After-put g) → map plain_note c.in_ok-call.field-0.notes.items ≡ notes_of_all c.self.inside.rules c.args.new.now.worker (at_span c.add_span.new.forest.spans OnNew c.args.new.now.id (fields_given c.args.new.now.fields) ∷ [])
 told g c =
-    new_notes c.self.inside.rules c.args.new.now.worker c.args.new.now.id c.self.inside.forest.spans c.add_span.new.forest.spans (made_node c.self.inside.rules (meta_given c.args.new.now.meta) (fields_given c.args.new.now.fields) c.args.new.now.parent) (fields_given c.args.new.now.fields) _
+    new_notes c.self.inside.rules c.args.new.now.worker c.args.new.now.id c.self.inside.forest.spans c.add_span.new.forest.spans (new_node (meta_given c.args.new.now.meta) (fields_given c.args.new.now.fields) c.args.new.now.parent (admission_set c.self.inside.rules (meta_given c.args.new.now.meta).target (meta_given c.args.new.now.meta).level)) (fields_given c.args.new.now.fields) _
     (gone g c) c.open_spans_are_counted.ensures.parent (parent_open g c) (ap (λ f. f.spans) (forest_is g c))
     (c.in_ok-call.ensures.notes
     ∙ (λ j. map (first_note c.self.inside.forest.spans c.args.new.now.worker c.args.new.now.id c.args.new.now.parent (meta_given c.args.new.now.meta).name (fields_given c.args.new.now.fields))
@@ -80,15 +84,24 @@ call g c = record {
   sent = c.put.ensures.sent ∙ (λ j. c.in_ok-ask.ensures.sent j ++ (record { request = c.in_ok-call.ensures.call j; answer = made c.args.new.now.id; notes = map plain_note c.in_ok-call.field-0.notes.items }) ∷ []);
 }
 
-and_second : (p q : Bool) → (p && q) ≡ true → q ≡ true
-and_second true q h = h
-and_second false q h = absurd (false≢true h)
+pub overflow_add-self : goal.overflow_add-self
+overflow_add-self g c =
+    let same = ap (λ (v : CoreView). length v.sent) c.self.view_is in
+    let few = one_more_fits c.args.self.now (span_request c.args.new.now) c.requires.due in
+    omega (arith, c.self.invariant.0.calls_are, same, few)
+
+pub put-requires-clause-countable : goal.put-requires-clause-countable
+put-requires-clause-countable g c =
+    let asked = ap length c.in_ok-ask.ensures.sent in
+    let same = ap (λ (v : CoreView). length v.sent) c.self.view_is in
+    let few = one_more_fits c.args.self.now (span_request c.args.new.now) c.requires.due in
+    omega (arith, asked, same, few)
 
 pub overflow_add-self-2 : goal.overflow_add-self-2
 overflow_add-self-2 g c =
     let few = few_made _ _ _ _ c.self.invariant.0.legal in
     let same = ap (λ (v : CoreView). length v.sent) c.self.view_is in
-    let may : length c.args.self.now.sent < 2 ^ 64 - 1 = ltb-true _ _ (and_second _ _ c.requires.due.counts) in
+    let may = one_more_fits c.args.self.now (span_request c.args.new.now) c.requires.due in
     omega (arith, few, same, c.self.invariant.1, may)
 
 pub invariant_of-self-2 : goal.invariant_of-self-2

@@ -6,11 +6,13 @@ use Rattle.span_forest.specs.declared.span.Holder.TheVariants.{Handle}
 use Rattle.span_forest.specs.Holders.{IsHeld}
 use Rattle.span_stack.specs.Stack.{ids_of_each}
 use Rattle.span_outlet.specs.Request.{record_fields, recorded}
-use Rattle.span_core.specs.Core.{CoreView, has_handle}
+use Rattle.span_core.specs.Step.{has_handle}
+use Rattle.span_core.specs.Core.{CoreView}
 use Rattle.span_core.specs.Happening.{at_span, notes_of_all}
 use Rattle.span_core.specs.inside.Given.{fields_given}
 use Rattle.span_core.proofs.Made.{none_made}
 use Rattle.span_core.proofs.Deciding.{held_from}
+use Rattle.span_core.proofs.Judging.{tests_of}
 use Rattle.span_core.proofs.Soundness.{IsOneMore, sound_kept}
 use Rattle.span_core.proofs.Accepting.{step_record}
 use Rattle.span_core.proofs.Telling.{one_happening}
@@ -26,7 +28,7 @@ within g c = omega (arith, c.requires, ap (λ (v : CoreView). v.limits.workers) 
 
 held : (g : given.Over) (c : After-put g) → IsHeld c.self.inside.forest.spans c.args.id Handle
 held g c =
-    held_from c.self.inside.forest.spans c.args.id (subst (λ (v : CoreView). has_handle v.world.spans c.args.id ≡ true) (sym c.self.view_is) c.in_ok-bits.ensures.due.known)
+    held_from c.self.inside.forest.spans c.args.id (subst (λ (v : CoreView). has_handle v.world.spans c.args.id ≡ true) (sym c.self.view_is) (tests_of c.args.self.now (record_fields c.args.worker c.args.id (fields_given c.args.fields.now)) c.in_ok-bits.ensures.due).known)
 
 told : (g : given.Over) (c : After-put g) → map plain_note c.in_ok-call.field-0.notes.items
     ≡ notes_of_all c.self.inside.rules c.args.worker (at_span c.self.inside.forest.spans OnRecord c.args.id (fields_given c.args.fields.now) ∷ [])

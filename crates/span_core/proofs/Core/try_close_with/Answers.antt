@@ -5,7 +5,9 @@ use Rattle.span_forest.specs.declared.span.Holder.TheVariants.{Handle}
 use Rattle.span_forest.specs.Release.{closing_list}
 use Rattle.span_stack.specs.Stack.{ids_of_each}
 use Rattle.span_outlet.specs.Request.{try_close, released}
-use Rattle.span_core.specs.Core.{CoreView, IsDue, has_handle}
+use Rattle.span_core.specs.Step.{has_handle}
+use Rattle.span_core.specs.Core.{CoreView, IsDue}
+use Rattle.span_core.proofs.Judging.{due_from}
 use Rattle.span_core.proofs.Made.{none_made}
 use Rattle.span_core.proofs.Soundness.{IsOneMore, put_on, sound_kept}
 use Rattle.span_core.proofs.Accepting.{step_close}
@@ -19,14 +21,14 @@ within : (g : given.Over) (c : After-put g) → c.args.worker < length (ids_of_e
 within g c = omega (arith, c.requires.worker, ap (λ (v : CoreView). v.limits.workers) c.self.view_is, c.self.invariant.0.stacks_are)
 
 due : (g : given.Over) (c : After-put g) → IsDue c.args.self.now (try_close c.args.worker c.args.id)
-due g c = record {
+due g c = due_from c.args.self.now (try_close c.args.worker c.args.id) (record {
   named = refl;
   wanted = refl;
   known = subst (λ (v : CoreView). has_handle v.world.spans c.args.id ≡ true) c.self.view_is c.in-Some.ensures.known;
   counts = lt-ltb _ _ (omega (arith, c.self.invariant.0.calls_are, ap (λ (v : CoreView). length v.sent) c.self.view_is));
   slot = refl;
   inside = refl;
-}
+})
 
 list_is : (g : given.Over) (c : After-put g) → c.in_ok-closes.closes.ids.items ≡ closing_list c.args.self.now.world.spans c.args.id Handle
 list_is g c = c.in_ok-closes.ensures.ids ∙ ap (λ (v : CoreView). closing_list v.world.spans c.args.id Handle) c.self.view_is

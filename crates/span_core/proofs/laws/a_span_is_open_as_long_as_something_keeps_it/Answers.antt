@@ -7,7 +7,7 @@ use Rattle.span_core.proofs.laws.a_span_is_open_as_long_as_something_keeps_it.Go
 
 pub returns-clause-next : goal.returns-clause-next
 returns-clause-next g c =
-    let legal = c.calls.ensures.legal in
+    let legal = c.what_was_sent_is_legal.ensures.legal in
     let w = whole _ _ _ _ legal in
     λ request answer new id accepted o.
     (let after = whole _ _ _ new.world (more (record { request = request; answer = answer; notes = accepted.notes }) legal accepted.step refl) in

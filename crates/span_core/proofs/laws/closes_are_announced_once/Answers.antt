@@ -9,7 +9,7 @@ use Rattle.span_core.proofs.laws.closes_are_announced_once.Goals as goal
 pub returns : goal.returns
 returns g c =
     let old = c.args.core.now in
-    let w = whole _ _ _ _ c.calls.ensures.legal in
+    let w = whole _ _ _ _ c.what_was_sent_is_legal.ensures.legal in
     λ request answer new layer id accepted.
     tally_is (tells_close layer id) accepted.notes
     ∙ ap (tally (tells_close layer id)) accepted.step.notes_are

@@ -5,7 +5,7 @@ use Rattle.span_core.proofs.laws.new_id_finds_its_span.Goals as goal
 
 pub returns-clause-new : goal.returns-clause-new
 returns-clause-new g c =
-    let w = whole _ _ _ _ c.calls.ensures.legal in
+    let w = whole _ _ _ _ c.what_was_sent_is_legal.ensures.legal in
     λ worker id meta fields parent new accepted. found_new _ _ _ _ worker id meta fields parent new.world accepted.step.changes w.settled
 
 pub returns-clause-others : goal.returns-clause-others

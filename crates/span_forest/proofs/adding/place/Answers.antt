@@ -1,10 +1,10 @@
 use Rattle.std.proofs.Common.{◌≡◌, ◌<◌, sym, ap, subst, drop}
 use Rattle.std.specs.Option.{IsSomeAnd}
 use Rattle.span_id.specs.Id.{slot_of}
-use Rattle.span_slots.specs.Table.{Table, issue}
+use Rattle.span_slots.specs.Table.{Table, issue, with_entry}
 use Rattle.span_forest.specs.declared.span.Span.{Span}
 use Rattle.span_forest.specs.Node.{node_of}
-use Rattle.span_forest.specs.Spans.{nodes_of, with_node}
+use Rattle.span_forest.specs.Spans.{nodes_of}
 use Rattle.span_forest.specs.inside.Invariant.{IsSettled}
 use Rattle.span_forest.proofs.Placed.{stored, stored_is, issued_alone, placed_root, placed_child, parent_there}
 use Rattle.span_forest.proofs.adding.place.Goals as goal
@@ -28,8 +28,8 @@ pub returns-clause-nodes : goal.returns-clause-nodes
 returns-clause-nodes c =
     let mid : c.insert.new.self ≡ stored c.args.slots.now c.in-Ok.id c.args.span = stored_is c.args.slots.now c.insert.new.self c.in-Ok.id c.args.span c.in-Ok.ensures.id c.in-Ok.ensures.table c.insert.ensures.change in
     elim c.match-parent.branch [
-      | in-Some w ↦ subst (λ (x : Table Span). nodes_of x.entries ≡ with_node (nodes_of c.args.slots.now.entries) c.in-Ok.id (node_of c.args.span)) (sym w.slots-is) (placed_child c.args.slots.now c.in-Ok.id c.args.span c.requires.settled c.in-Ok.ensures.vacant c.requires.new c.insert.new.self w.raise.new.slots w.in-Some.parent 4294967295 mid w.in-Some.is c.requires.above w.raise.ensures).nodes
-      | in_default-parent w ↦ subst (λ (x : Table Span). nodes_of x.entries ≡ with_node (nodes_of c.args.slots.now.entries) c.in-Ok.id (node_of c.args.span)) (sym w.slots-is) (placed_root c.args.slots.now c.in-Ok.id c.args.span c.requires.settled c.in-Ok.ensures.vacant c.requires.new c.insert.new.self mid w.in_default-parent.is).nodes
+      | in-Some w ↦ subst (λ (x : Table Span). nodes_of x.entries ≡ with_entry (nodes_of c.args.slots.now.entries) c.in-Ok.id (node_of c.args.span)) (sym w.slots-is) (placed_child c.args.slots.now c.in-Ok.id c.args.span c.requires.settled c.in-Ok.ensures.vacant c.requires.new c.insert.new.self w.raise.new.slots w.in-Some.parent 4294967295 mid w.in-Some.is c.requires.above w.raise.ensures).nodes
+      | in_default-parent w ↦ subst (λ (x : Table Span). nodes_of x.entries ≡ with_entry (nodes_of c.args.slots.now.entries) c.in-Ok.id (node_of c.args.span)) (sym w.slots-is) (placed_root c.args.slots.now c.in-Ok.id c.args.span c.requires.settled c.in-Ok.ensures.vacant c.requires.new c.insert.new.self mid w.in_default-parent.is).nodes
     ]
 
 pub returns-clause-table : goal.returns-clause-table

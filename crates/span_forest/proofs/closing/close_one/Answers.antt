@@ -1,6 +1,6 @@
 use Rattle.std.proofs.Common.{◌<◌, sym, subst, ◌∙◌}
 use Rattle.std.specs.Option.{IsSomeAnd}
-use Rattle.span_slots.specs.Table.{value_at}
+use Rattle.span_slots.specs.Table.{find}
 use Rattle.span_forest.specs.declared.span.Span.{Span}
 use Rattle.span_forest.proofs.Nodes.{value_of_open}
 use Rattle.span_forest.proofs.Counts.{closed_root, closed_child, parent_counts, none_is}
@@ -11,7 +11,7 @@ use Rattle.span_forest.proofs.closing.close_one.Goals as goal
 pub unreachable-requires : goal.unreachable-requires
 unreachable-requires c =
     let s = value_of_open c.args.slots.now.entries c.args.id c.requires.open in
-    none_is (value_at c.args.slots.now.entries c.args.id) s.0 (sym c.remove.ensures.value ∙ c.in_default.is) s.1
+    none_is (find c.args.slots.now.entries c.args.id) s.0 (sym c.remove.ensures.value ∙ c.in_default.is) s.1
 
 pub lower-requires : goal.lower-requires
 lower-requires c =

@@ -80,6 +80,8 @@ pub(crate) enum Answer {
     Counted(u64, u64),
     Stepped(Option<Step>),
     Refused(Fault),
+    /// Nothing: a look or a step is no call of a worker.
+    NoCall,
 }
 
 /// What a call answers that is accepted with no value, or refused.
@@ -110,6 +112,7 @@ fn word(answer: &Answer) -> &'static str {
         Answer::Recorded => "= recorded\n",
         Answer::Told => "= told\n",
         Answer::Stepped(None) => "= no batch\n",
+        Answer::NoCall => "= no call\n",
         Answer::Made(_) | Answer::Counted(..) | Answer::Stepped(Some(_)) | Answer::Refused(_) => "",
     }
 }
@@ -120,8 +123,8 @@ fn add_answer(text: &mut String, answer: &Answer) -> Result<(), AllocError> {
         Answer::Made(id) => write!(text, "= {id}\n"),
         Answer::Refused(fault) => write!(text, "! {fault}\n"),
         Answer::Counted(accepted, out) => write!(text, "= accepted {accepted} out {out}\n"),
-        Answer::Stepped(Some(Step { told, refused })) => {
-            write!(text, "= told {told} refused {refused}\n")
+        Answer::Stepped(Some(Step { told, missed })) => {
+            write!(text, "= told {told} missed {missed}\n")
         }
         _ => text.push_str(word(answer)),
     }

@@ -24,14 +24,14 @@ const FULL_RING: Ending = Ending {
         (0, Act::Step),
         (0, Act::Close(1)),
     ],
-    answers: "= 1\n! backlog\n! backlog\n= told 0 refused 0\n= no batch\n= closed\n",
-    numbers: "left 0 handles 0 entries 0 calls 2 made 1 closed 1 refused 0",
+    answers: "= 1\n! backlog\n! backlog\n= told 0 missed 0\n= no batch\n= closed\n",
+    numbers: "left 0 handles 0 entries 0 calls 2 made 1 closed 1 missed 0",
     lines: "",
 };
 
 const EVERY_ANSWER: &str = "\
 = 1
-= told 1 refused 0
+= told 1 missed 0
 = entered
 ! backlog
 ! backlog
@@ -43,9 +43,9 @@ const EVERY_ANSWER: &str = "\
 ! unknown
 ! bad name
 Ok(Some(Found { name: \"a\", parent: None, handles: 1, entries: 1, count: 2 }))
-= told 1 refused 0
+= told 1 missed 0
 = open
-= told 1 refused 0
+= told 1 missed 0
 = closed
 ";
 
@@ -74,13 +74,13 @@ const EVERY_CALL_TOLD: Ending = Ending {
     plans: &[EVERYTHING],
     acts: EVERY_CALL,
     answers: EVERY_ANSWER,
-    numbers: "left 0 handles 0 entries 0 calls 4 made 1 closed 1 refused 0",
+    numbers: "left 0 handles 0 entries 0 calls 4 made 1 closed 1 missed 0",
     lines: "0 0 0 new 1 w0 a\n1 0 0 enter 1 w0 a\n2 0 0 exit 1 w0 a\n3 0 0 close 1 w0 a\n",
 };
 
 const EVERY_ANSWER_WITHOUT_NOTES: &str = "\
 = 1
-= told 0 refused 0
+= told 0 missed 0
 = entered
 ! backlog
 ! backlog
@@ -92,9 +92,9 @@ const EVERY_ANSWER_WITHOUT_NOTES: &str = "\
 ! unknown
 ! bad name
 Ok(Some(Found { name: \"a\", parent: None, handles: 1, entries: 1, count: 2 }))
-= told 0 refused 0
+= told 0 missed 0
 = open
-= told 0 refused 0
+= told 0 missed 0
 = closed
 ";
 
@@ -102,7 +102,7 @@ const EVERY_CALL_TOLD_TO_NONE: Ending = Ending {
     plans: &[],
     acts: EVERY_CALL,
     answers: EVERY_ANSWER_WITHOUT_NOTES,
-    numbers: "left 0 handles 0 entries 0 calls 4 made 1 closed 1 refused 0",
+    numbers: "left 0 handles 0 entries 0 calls 4 made 1 closed 1 missed 0",
     lines: "",
 };
 
@@ -110,7 +110,7 @@ const NOT_WANTED_HERE: Ending = Ending {
     plans: &[ELSEWHERE],
     acts: &[(0, EVENT), (0, Act::New("a")), (0, EVENT)],
     answers: "= told\n= not wanted\n! backlog\n",
-    numbers: "left 0 handles 0 entries 0 calls 1 made 0 closed 0 refused 0",
+    numbers: "left 0 handles 0 entries 0 calls 1 made 0 closed 0 missed 0",
     lines: "",
 };
 

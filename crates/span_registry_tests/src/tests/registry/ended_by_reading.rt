@@ -3,12 +3,12 @@
 ghost use Rattle.std.specs.Prelude.{◌≡◌, [], Some};
 ghost use Rattle.span_registry.specs.Blanks.{blanks_of};
 
-use crate::tests::registry::layers::{Plan, layers};
+use crate::tests::registry::layers::{PlainReader, PlainRegistry, Plan, layers};
 use crate::tests::registry::parts::whole_share;
 use crate::tests::registry::threads::{Turn, take_turns};
 use span_id::Limits;
-use span_layers::{Filters, Say};
-use span_registry::{Blanks, Counts, HANDLE_PARTS, LineReader, Registry, Ring, Setup};
+use span_layers::{ByRule, Filters, Say};
+use span_registry::{Blanks, Counts, HANDLE_PARTS, LineReader, Ring, Setup};
 use std::alloc::Global;
 use std::marker::Brand;
 use std::process::Abort;
@@ -52,9 +52,9 @@ fn named<
 >(
     rt: &R,
     alloc: Global,
-    filters: Filters,
+    filters: Filters<ByRule>,
     ring: Ring,
-    reader: LineReader,
+    reader: PlainReader,
     blanks: Blanks,
     turns: &[Turn],
 ) -> (Counts, Tally)
@@ -65,7 +65,7 @@ fn named<
     requires blanks { blanks ≡ blanks_of S.limits H.name H.parts C.name C.parts S.table S.history }
 {
     let number = blanks.limits().limits().workers;
-    let made = Registry::<H, C, S, Ring>::new(alloc, filters, ring, blanks);
+    let made = PlainRegistry::<H, C, S, Ring>::new(alloc, filters, ring, blanks);
     let (registry, workers) = made.expect(rt, "memory");
     let whole = take_turns(rt, alloc, &registry, workers, turns);
     let share = whole_share(rt, number, whole);

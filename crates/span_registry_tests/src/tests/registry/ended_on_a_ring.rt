@@ -3,12 +3,12 @@ ghost use Rattle.std.specs.Prelude.{◌≡◌, [], Some};
 ghost use Rattle.span_registry.specs.Blanks.{blanks_of};
 
 use crate::tests::registry::acts::Act;
-use crate::tests::registry::layers::{Plan, layers};
+use crate::tests::registry::layers::{PlainDrain, PlainRegistry, Plan, layers};
 use crate::tests::registry::on_registry::calls;
 use crate::tests::registry::parts::{Part, gather, whole_share};
 use span_id::Limits;
-use span_layers::Filters;
-use span_registry::{Blanks, Drain, HANDLE_PARTS, Registry, Report, Ring, Setup, Worker};
+use span_layers::{ByRule, Filters};
+use span_registry::{Blanks, Drain, HANDLE_PARTS, Report, Ring, Setup, Worker};
 use std::alloc::Global;
 use std::marker::Brand;
 use std::process::Abort;
@@ -19,8 +19,8 @@ use std::sync::ledger::Ledger;
 fn all_calls<H: Ledger, C: Ledger, S: Setup, R: Wait + Abort>(
     rt: &R,
     alloc: Global,
-    registry: &Registry<H, C, S, Ring>,
-    drain: &mut Drain,
+    registry: &PlainRegistry<H, C, S, Ring>,
+    drain: &mut PlainDrain,
     workers: Vec<Worker<H, C, S>>,
     acts: &[(u32, Act)],
     answers: &mut String,
@@ -39,9 +39,9 @@ fn all_calls<H: Ledger, C: Ledger, S: Setup, R: Wait + Abort>(
 fn named<H: Ledger, C: Ledger, S: Setup, R: Wait + Abort>(
     rt: &R,
     alloc: Global,
-    filters: Filters,
+    filters: Filters<ByRule>,
     ring: Ring,
-    drain: Drain,
+    drain: PlainDrain,
     blanks: Blanks,
     acts: &[(u32, Act)],
     answers: &mut String,
@@ -53,7 +53,7 @@ fn named<H: Ledger, C: Ledger, S: Setup, R: Wait + Abort>(
     requires blanks { blanks ≡ blanks_of S.limits H.name H.parts C.name C.parts S.table S.history }
 {
     let number = blanks.limits().limits().workers;
-    let made = Registry::<H, C, S, Ring>::new(alloc, filters, ring, blanks);
+    let made = PlainRegistry::<H, C, S, Ring>::new(alloc, filters, ring, blanks);
     let (registry, workers) = made.expect(rt, "memory");
     let mut drain = drain;
     let whole = all_calls(rt, alloc, &registry, &mut drain, workers, acts, answers);

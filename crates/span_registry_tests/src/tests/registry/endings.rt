@@ -29,10 +29,10 @@ fn numbers(alloc: Global, report: &Report) -> Result<String, AllocError> {
         made,
         closed,
         lines: _,
-        refused,
+        missed,
     } = report;
     format!(in alloc;
-        "left {left} handles {handles} entries {entries} calls {calls} made {made} closed {closed} refused {refused}"
+        "left {left} handles {handles} entries {entries} calls {calls} made {made} closed {closed} missed {missed}"
     )
 }
 
@@ -106,7 +106,7 @@ static ENDINGS: [(Limits, Ending<'static>); 7] = [
                 (0, Act::Find(1)),
             ],
             answers: EVERY_ANSWER,
-            numbers: "left 0 handles 0 entries 0 calls 8 made 1 closed 1 refused 0",
+            numbers: "left 0 handles 0 entries 0 calls 8 made 1 closed 1 missed 0",
             lines: EVERY_LINE,
         },
     ),
@@ -117,7 +117,7 @@ static ENDINGS: [(Limits, Ending<'static>); 7] = [
             plans: &[EVERYTHING],
             acts: &[(0, Act::New("a"))],
             answers: "= 1\n",
-            numbers: "left 1 handles 1 entries 0 calls 1 made 1 closed 0 refused 0",
+            numbers: "left 1 handles 1 entries 0 calls 1 made 1 closed 0 missed 0",
             lines: "0 0 0 new 1 w0 a\n",
         },
     ),
@@ -132,7 +132,7 @@ static ENDINGS: [(Limits, Ending<'static>); 7] = [
                 (0, Act::Close(1)),
             ],
             answers: "= 1\n= 2\n= open\n",
-            numbers: "left 2 handles 1 entries 0 calls 3 made 2 closed 0 refused 0",
+            numbers: "left 2 handles 1 entries 0 calls 3 made 2 closed 0 missed 0",
             lines: "",
         },
     ),
@@ -143,7 +143,7 @@ static ENDINGS: [(Limits, Ending<'static>); 7] = [
             plans: &[EVERYTHING],
             acts: &[(0, Act::New("a")), (1, Act::Close(1))],
             answers: "= 1\n= closed\n",
-            numbers: "left 0 handles 0 entries 0 calls 2 made 1 closed 1 refused 0",
+            numbers: "left 0 handles 0 entries 0 calls 2 made 1 closed 1 missed 0",
             lines: "0 0 0 new 1 w0 a\n1 0 0 close 1 w1 a\n",
         },
     ),
@@ -154,7 +154,7 @@ static ENDINGS: [(Limits, Ending<'static>); 7] = [
             plans: &[EVERYTHING],
             acts: &[(0, Act::New("a")), (0, Act::Enter(1)), (0, Act::Close(1))],
             answers: "= 1\n= entered\n= open\n",
-            numbers: "left 1 handles 0 entries 1 calls 3 made 1 closed 0 refused 0",
+            numbers: "left 1 handles 0 entries 1 calls 3 made 1 closed 0 missed 0",
             lines: "0 0 0 new 1 w0 a\n1 0 0 enter 1 w0 a\n",
         },
     ),
@@ -178,7 +178,7 @@ static ENDINGS: [(Limits, Ending<'static>); 7] = [
                 (0, Act::Close(1)),
             ],
             answers: "= 1\n! bad name\n! unknown\n! count full\n! full\n! unknown\n! not entered\n= closed\n",
-            numbers: "left 0 handles 0 entries 0 calls 2 made 1 closed 1 refused 0",
+            numbers: "left 0 handles 0 entries 0 calls 2 made 1 closed 1 missed 0",
             lines: "",
         },
     ),
@@ -202,7 +202,7 @@ static ENDINGS: [(Limits, Ending<'static>); 7] = [
                 (0, Act::Close(16777217)),
             ],
             answers: "= 1\n= closed\n= 16777217\n! unknown\n! not entered\n! unknown\n= cloned\n= open\n= closed\n",
-            numbers: "left 0 handles 0 entries 0 calls 6 made 2 closed 2 refused 0",
+            numbers: "left 0 handles 0 entries 0 calls 6 made 2 closed 2 missed 0",
             lines: "",
         },
     ),

@@ -1,6 +1,6 @@
 //! Handles that one thread makes, a second enters and a third closes.
 use crate::tests::registry::ended_by_reading::run_to_last_line;
-use crate::tests::registry::jobs::Task;
+use crate::tests::registry::jobs::{Task, Visit};
 use crate::tests::registry::layers::{APP, EVERYTHING, Plan};
 use crate::tests::registry::same::same;
 use crate::tests::registry::threads::Turn;
@@ -13,10 +13,10 @@ use span_registry::Counts;
 static TURNS: [Turn; 6] = [
     Turn::All(Task::Make(200)),
     Turn::HandOn,
-    Turn::All(Task::Enter),
+    Turn::All(Task::Visit(Visit::Enter)),
     Turn::HandOn,
-    Turn::All(Task::Close),
-    Turn::All(Task::Leave),
+    Turn::All(Task::Visit(Visit::Close)),
+    Turn::All(Task::Visit(Visit::Leave)),
 ];
 
 // One layer of everything, one of spans that close, and one of those that are entered and left.

@@ -1,24 +1,30 @@
 //! What a worker does in a thread of its own: it makes jobs, and enters, closes and leaves their spans.
 use crate::tests::registry::acts::{Act, Answer, NEWEST};
+use crate::tests::registry::layers::PlainRegistry;
 use crate::tests::registry::on_registry::call;
 use span_id::{Fault, Id, Level};
-use span_registry::{DroppableHandle, Outlet, Registry, Setup, Worker};
+use span_registry::{DroppableHandle, Outlet, Setup, Worker};
 use std::alloc::Global;
+use std::mem;
 use std::process::Abort;
 use std::sync::Wait;
 use std::sync::ledger::Ledger;
 
-/// What all workers do at a time. Of each job that is entered, closed or left an event tells.
+/// What is done with a job that is there.
+#[derive(Clone, Copy)]
+pub(crate) enum Visit {
+    Enter,
+    Close,
+    Leave,
+}
+
+/// What all workers do at a time. Of each visit an event tells.
 #[derive(Clone, Copy)]
 pub(crate) enum Task {
     /// Make so many jobs, and keep a handle of each.
     Make(u32),
-    /// Enter the spans of all handles.
-    Enter,
-    /// Close all handles.
-    Close,
-    /// Leave all spans.
-    Leave,
+    /// Enter the spans of all handles, close all handles, or leave all spans.
+    Visit(Visit),
 }
 
 /// A worker, the handles that it has, and the spans that it is inside.
@@ -31,7 +37,7 @@ pub(crate) struct Station<H: Ledger, C: Ledger, S: Setup> {
 
 // The calls on a new job of this id, with a step inside it. It is entered by its first handle while it has a second one,
 // which is then given back.
-fn visit(job: Id) -> [Act<'static>; 7] {
+fn calls_on(job: Id) -> [Act<'static>; 7] {
     [
         Act::Clone(job.get()),
         Act::Enter(job.get()),
@@ -49,7 +55,9 @@ const TOCK: Act = Act::Event(Level::Info, "tock", &[]);
 fn is_accepted(answer: Answer) -> Result<(), Fault> {
     match answer {
         Answer::Refused(fault) => Err(fault),
-        Answer::NotWanted | Answer::Counted(..) | Answer::Stepped(_) => Err(Fault::BadName),
+        Answer::NotWanted | Answer::Counted(..) | Answer::Stepped(_) | Answer::NoCall => {
+            Err(Fault::BadName)
+        }
         _ => Ok(()),
     }
 }
@@ -58,7 +66,7 @@ fn is_accepted(answer: Answer) -> Result<(), Fault> {
 fn make_calls<H: Ledger, C: Ledger, S: Setup, O: Outlet, R: Wait + Abort>(
     rt: &R,
     alloc: Global,
-    registry: &Registry<H, C, S, O>,
+    registry: &PlainRegistry<H, C, S, O>,
     worker: &mut Worker<H, C, S>,
     held: &mut Vec<DroppableHandle<H, C, S>>,
     acts: &[Act],
@@ -73,7 +81,7 @@ fn make_calls<H: Ledger, C: Ledger, S: Setup, O: Outlet, R: Wait + Abort>(
 fn make_jobs<H: Ledger, C: Ledger, S: Setup, O: Outlet, R: Wait + Abort>(
     rt: &R,
     alloc: Global,
-    registry: &Registry<H, C, S, O>,
+    registry: &PlainRegistry<H, C, S, O>,
     worker: &mut Worker<H, C, S>,
     held: &mut Vec<DroppableHandle<H, C, S>>,
     rounds: u32,
@@ -81,7 +89,7 @@ fn make_jobs<H: Ledger, C: Ledger, S: Setup, O: Outlet, R: Wait + Abort>(
     for _ in 0..rounds {
         make_calls(rt, alloc, registry, worker, held, &[Act::Child("job", 0)]);
         let job = held.last().expect(rt, "a job").handle.id();
-        make_calls(rt, alloc, registry, worker, held, &visit(job));
+        make_calls(rt, alloc, registry, worker, held, &calls_on(job));
     }
 }
 
@@ -98,34 +106,52 @@ fn ids_of<H: Ledger, C: Ledger, S: Setup>(
     ids
 }
 
-// What is done with a job that is there.
-fn act_on(task: Task, job: Id) -> Act<'static> {
-    match task {
-        Task::Enter => Act::Enter(job.get()),
-        Task::Close => Act::Close(job.get()),
-        Task::Make(_) | Task::Leave => Act::Exit(job.get()),
+// The call of a visit.
+fn call_of(visit: Visit, job: Id) -> Act<'static> {
+    match visit {
+        Visit::Enter => Act::Enter(job.get()),
+        Visit::Close => Act::Close(job.get()),
+        Visit::Leave => Act::Exit(job.get()),
     }
 }
 
 fn visit_jobs<H: Ledger, C: Ledger, S: Setup, O: Outlet, R: Wait + Abort>(
     rt: &R,
     alloc: Global,
-    registry: &Registry<H, C, S, O>,
+    registry: &PlainRegistry<H, C, S, O>,
     worker: &mut Worker<H, C, S>,
     held: &mut Vec<DroppableHandle<H, C, S>>,
     jobs: &[Id],
-    task: Task,
+    visit: Visit,
 ) {
     for job in jobs {
-        let acts = [act_on(task, *job), TOCK];
+        let acts = [call_of(visit, *job), TOCK];
         make_calls(rt, alloc, registry, worker, held, &acts);
+    }
+}
+
+// The jobs that are visited: those of which the worker has handles, and where it leaves, those that it is inside.
+fn jobs_of<H: Ledger, C: Ledger, S: Setup>(
+    rt: &impl Abort,
+    alloc: Global,
+    held: &[DroppableHandle<H, C, S>],
+    inside: &mut Vec<Id>,
+    visit: Visit,
+) -> Vec<Id> {
+    match visit {
+        Visit::Enter => {
+            *inside = ids_of(rt, alloc, held);
+            ids_of(rt, alloc, held)
+        }
+        Visit::Close => ids_of(rt, alloc, held),
+        Visit::Leave => mem::replace(inside, Vec::new(alloc)),
     }
 }
 
 fn perform<H: Ledger, C: Ledger, S: Setup, O: Outlet, R: Wait + Abort>(
     rt: &R,
     alloc: Global,
-    registry: &Registry<H, C, S, O>,
+    registry: &PlainRegistry<H, C, S, O>,
     station: &mut Station<H, C, S>,
     task: Task,
 ) {
@@ -136,15 +162,10 @@ fn perform<H: Ledger, C: Ledger, S: Setup, O: Outlet, R: Wait + Abort>(
     } = station;
     match task {
         Task::Make(rounds) => make_jobs(rt, alloc, registry, worker, held, rounds),
-        Task::Enter => {
-            *inside = ids_of(rt, alloc, held.as_slice());
-            visit_jobs(rt, alloc, registry, worker, held, inside.as_slice(), task);
+        Task::Visit(visit) => {
+            let jobs = jobs_of(rt, alloc, held.as_slice(), inside, visit);
+            visit_jobs(rt, alloc, registry, worker, held, jobs.as_slice(), visit);
         }
-        Task::Close => {
-            let jobs = ids_of(rt, alloc, held.as_slice());
-            visit_jobs(rt, alloc, registry, worker, held, jobs.as_slice(), task);
-        }
-        Task::Leave => visit_jobs(rt, alloc, registry, worker, held, inside.as_slice(), task),
     }
 }
 
@@ -152,7 +173,7 @@ fn perform<H: Ledger, C: Ledger, S: Setup, O: Outlet, R: Wait + Abort>(
 pub(crate) fn work<H: Ledger, C: Ledger, S: Setup, O: Outlet, R: Wait + Abort>(
     rt: &R,
     alloc: Global,
-    registry: &Registry<H, C, S, O>,
+    registry: &PlainRegistry<H, C, S, O>,
     station: Station<H, C, S>,
     task: Task,
 ) -> Station<H, C, S> {

@@ -1,16 +1,22 @@
-//! Layers whose closures answer as the rules say, and the texts that calls take.
-ghost use Rattle.std.specs.Prelude.{◌≡◌, string_bytes};
-ghost use Rattle.std.specs.Result.{ForOk};
-ghost use Rattle.span_layers.specs.Note.{plain_note};
-ghost use Rattle.span_layers.specs.Rule.{pairs_of, is_admitted};
-ghost use Rattle.span_layers.specs.Text.{text_of};
+//! Layers that admit by their rules and write in their forms, and the texts that calls take.
 
 use span_id::{Field, Level, Meta};
 use span_layers::{
-    Filters, FmtSpan, Form, Hooks, Layer, Layers, Note, Rule, Style, Tellers, admits, text,
+    Admitters, ByForm, ByRule, Filters, FmtSpan, Form, Formatters, Hooks, Layer, Layers, Rule,
+    Style, Tellers,
 };
-use std::alloc::{AllocError, Global};
+use span_registry::{Drain, LineReader, Registry};
+use std::alloc::Global;
 use std::process::Abort;
+
+/// A registry whose layers have no closures.
+pub(crate) type PlainRegistry<H, C, S, O> = Registry<H, C, S, O, Admitters<ByRule>>;
+
+/// A drain of such layers.
+pub(crate) type PlainDrain = Drain<Formatters<ByForm>>;
+
+/// A reader of such layers.
+pub(crate) type PlainReader = LineReader<Formatters<ByForm>>;
 
 /// A layer in few words: its form, the kinds that it wants, and the pairs of its rule.
 pub(crate) type Plan<'a> = (Form, FmtSpan, &'a [(&'a str, Level)]);
@@ -24,24 +30,6 @@ pub(crate) const APP: &[(&str, Level)] = &[("app", Level::Info)];
 /// Lets everything in, and writes everything in the compact form.
 pub(crate) const EVERYTHING: Plan<'static> = (Form::Compact, FmtSpan::FULL, ALL);
 
-fn hooks(alloc: Global) -> Result<Hooks, AllocError> {
-    Ok(Hooks::new(
-        Box::new(
-            alloc,
-            |rule: &Rule, meta: &Meta| -> bool
-                ensures { result
-                    ≡ is_admitted (pairs_of rule.now) (string_bytes meta.now.target) meta.now.level }
-            { admits(rule, meta) },
-        )?,
-        Box::new(
-            alloc,
-            |alloc: Global, form: Form, note: &Note| -> Result<Vec<u8>, AllocError>
-                ensures { ForOk result (λ text. text.items ≡ text_of form (plain_note note.now)) }
-            { text(alloc, form, note) },
-        )?,
-    ))
-}
-
 fn rule(rt: &impl Abort, alloc: Global, pairs: &[(&str, Level)]) -> Rule {
     let mut made = Vec::new(alloc);
     for (prefix, level) in pairs {
@@ -51,7 +39,7 @@ fn rule(rt: &impl Abort, alloc: Global, pairs: &[(&str, Level)]) -> Rule {
     Rule { pairs: made }
 }
 
-fn layer(rt: &impl Abort, alloc: Global, plan: &Plan) -> Layer {
+fn layer(rt: &impl Abort, alloc: Global, plan: &Plan) -> Layer<ByRule, ByForm> {
     let (form, spans, pairs) = plan;
     Layer {
         style: Style {
@@ -59,12 +47,16 @@ fn layer(rt: &impl Abort, alloc: Global, plan: &Plan) -> Layer {
             spans: *spans,
         },
         rule: rule(rt, alloc, pairs),
-        hooks: hooks(alloc).expect(rt, "memory"),
+        hooks: Hooks::by_rule_and_form(),
     }
 }
 
 /// The two parts of layers of these plans.
-pub(crate) fn layers(rt: &impl Abort, alloc: Global, plans: &[Plan]) -> (Filters, Tellers) {
+pub(crate) fn layers(
+    rt: &impl Abort,
+    alloc: Global,
+    plans: &[Plan],
+) -> (Filters<ByRule>, Tellers<ByForm>) {
     let mut layers = Layers::new(alloc);
     for plan in plans {
         let added = layers.add(layer(rt, alloc, plan)).ok();

@@ -4,11 +4,10 @@ ghost use Rattle.std.specs.Prelude.{◌≡◌, Some};
 use crate::tests::registry::acts::{
     Act, Answer, NEWEST, accepted, closed, parent_of, push_answer, push_shown, said_by,
 };
-use crate::tests::registry::layers::Said;
+use crate::tests::registry::layers::{PlainDrain, PlainRegistry, Said};
 use span_id::{Fault, Id};
 use span_registry::{
-    Drain, DroppableHandle, HANDLE_PARTS, Handle, Outlet, ParentOf, RefusedClose, Registry, Ring,
-    Setup, Worker,
+    DroppableHandle, HANDLE_PARTS, Handle, Outlet, ParentOf, RefusedClose, Ring, Setup, Worker,
 };
 use std::alloc::Global;
 use std::process::Abort;
@@ -30,7 +29,7 @@ fn keep<H: Ledger, C: Ledger, S: Setup>(
 // A new span, whose handle is kept.
 fn make<H: Ledger, C: Ledger, S: Setup, O: Outlet, R: Wait>(
     rt: &R,
-    registry: &Registry<H, C, S, O>,
+    registry: &PlainRegistry<H, C, S, O>,
     worker: &mut Worker<H, C, S>,
     held: &mut Vec<DroppableHandle<H, C, S>>,
     parent: ParentOf,
@@ -65,7 +64,7 @@ fn place_of<H: Ledger, C: Ledger, S: Setup>(
 // A handle of this id is lent: for one more of its span, for an entry or for fields.
 fn lend<H: Ledger, C: Ledger, S: Setup, O: Outlet, R: Wait>(
     rt: &R,
-    registry: &Registry<H, C, S, O>,
+    registry: &PlainRegistry<H, C, S, O>,
     worker: &mut Worker<H, C, S>,
     held: &mut Vec<DroppableHandle<H, C, S>>,
     act: &Act,
@@ -98,7 +97,7 @@ fn lend<H: Ledger, C: Ledger, S: Setup, O: Outlet, R: Wait>(
 // Gives a handle back, which is kept where that is refused.
 fn give_back<H: Ledger, C: Ledger, S: Setup, O: Outlet, R: Wait>(
     rt: &R,
-    registry: &Registry<H, C, S, O>,
+    registry: &PlainRegistry<H, C, S, O>,
     worker: &mut Worker<H, C, S>,
     held: &mut Vec<DroppableHandle<H, C, S>>,
     handle: Handle<H, C, S>,
@@ -112,7 +111,7 @@ fn give_back<H: Ledger, C: Ledger, S: Setup, O: Outlet, R: Wait>(
 // Gives a handle of this id back.
 fn close<H: Ledger, C: Ledger, S: Setup, O: Outlet, R: Wait>(
     rt: &R,
-    registry: &Registry<H, C, S, O>,
+    registry: &PlainRegistry<H, C, S, O>,
     worker: &mut Worker<H, C, S>,
     held: &mut Vec<DroppableHandle<H, C, S>>,
     number: u64,
@@ -129,7 +128,7 @@ fn close<H: Ledger, C: Ledger, S: Setup, O: Outlet, R: Wait>(
 // A call that is told something, or lent a handle.
 fn pass<H: Ledger, C: Ledger, S: Setup, O: Outlet, R: Wait>(
     rt: &R,
-    registry: &Registry<H, C, S, O>,
+    registry: &PlainRegistry<H, C, S, O>,
     worker: &mut Worker<H, C, S>,
     held: &mut Vec<DroppableHandle<H, C, S>>,
     act: &Act,
@@ -152,11 +151,11 @@ fn pass<H: Ledger, C: Ledger, S: Setup, O: Outlet, R: Wait>(
     }
 }
 
-/// What a registry answers to a call of this worker; the handles that it gives are kept. Looks and steps are no calls.
+/// What a registry answers to a call of this worker; the handles that it gives are kept.
 pub(crate) fn call<H: Ledger, C: Ledger, S: Setup, O: Outlet, R: Wait + Abort>(
     rt: &R,
     alloc: Global,
-    registry: &Registry<H, C, S, O>,
+    registry: &PlainRegistry<H, C, S, O>,
     worker: &mut Worker<H, C, S>,
     held: &mut Vec<DroppableHandle<H, C, S>>,
     act: &Act,
@@ -171,7 +170,7 @@ pub(crate) fn call<H: Ledger, C: Ledger, S: Setup, O: Outlet, R: Wait + Abort>(
             let out = HANDLE_PARTS.wrapping_sub(worker.spare());
             Answer::Counted(worker.accepted(), out)
         }
-        Act::Find(_) | Act::Ask(_) | Act::Step => Answer::Stepped(None),
+        Act::Find(_) | Act::Ask(_) | Act::Step => Answer::NoCall,
         _ => {
             let said = said_by(rt, alloc, act);
             pass(rt, registry, worker, held, act, &said)
@@ -182,7 +181,7 @@ pub(crate) fn call<H: Ledger, C: Ledger, S: Setup, O: Outlet, R: Wait + Abort>(
 // What is open, what is held at all, what holds one span, who is inside it, and what is told of all spans.
 fn push_asked<H: Ledger, C: Ledger, S: Setup, O: Outlet, R: Wait + Abort>(
     rt: &R,
-    registry: &Registry<H, C, S, O>,
+    registry: &PlainRegistry<H, C, S, O>,
     worker: &mut Worker<H, C, S>,
     id: Id,
     answers: &mut String,
@@ -198,8 +197,8 @@ fn push_asked<H: Ledger, C: Ledger, S: Setup, O: Outlet, R: Wait + Abort>(
 fn note_act<H: Ledger, C: Ledger, S: Setup, R: Wait + Abort>(
     rt: &R,
     alloc: Global,
-    registry: &Registry<H, C, S, Ring>,
-    drain: &mut Drain,
+    registry: &PlainRegistry<H, C, S, Ring>,
+    drain: &mut PlainDrain,
     worker: &mut Worker<H, C, S>,
     held: &mut Vec<DroppableHandle<H, C, S>>,
     act: &Act,
@@ -229,8 +228,8 @@ fn note_act<H: Ledger, C: Ledger, S: Setup, R: Wait + Abort>(
 pub(crate) fn calls<H: Ledger, C: Ledger, S: Setup, R: Wait + Abort>(
     rt: &R,
     alloc: Global,
-    registry: &Registry<H, C, S, Ring>,
-    drain: &mut Drain,
+    registry: &PlainRegistry<H, C, S, Ring>,
+    drain: &mut PlainDrain,
     workers: &mut [Worker<H, C, S>],
     held: &mut Vec<DroppableHandle<H, C, S>>,
     acts: &[(u32, Act)],

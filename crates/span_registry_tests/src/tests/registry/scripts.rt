@@ -17,7 +17,7 @@ static HELD: [Ending<'static>; 4] = [
             (0, Act::Close(2)),
         ],
         answers: "= 1\n= 2\n= open\n= closed\n",
-        numbers: "left 0 handles 0 entries 0 calls 4 made 2 closed 2 refused 0",
+        numbers: "left 0 handles 0 entries 0 calls 4 made 2 closed 2 missed 0",
         lines: "\
 0 0 0 new 1 w0 a
 1 0 0 new 2 w0 a:b
@@ -37,7 +37,7 @@ static HELD: [Ending<'static>; 4] = [
             (0, Act::Exit(1)),
         ],
         answers: "= 1\n= entered\n= again\n= open\n= open\n= closed\n",
-        numbers: "left 0 handles 0 entries 0 calls 6 made 1 closed 1 refused 0",
+        numbers: "left 0 handles 0 entries 0 calls 6 made 1 closed 1 missed 0",
         lines: "\
 0 0 0 new 1 w0 a
 1 0 0 enter 1 w0 a
@@ -81,7 +81,7 @@ Ok(Some(Found { name: \"c\", parent: Some(Id { number: 2 }), handles: 1, entries
 = open
 = closed
 ",
-        numbers: "left 0 handles 0 entries 0 calls 12 made 3 closed 3 refused 0",
+        numbers: "left 0 handles 0 entries 0 calls 12 made 3 closed 3 missed 0",
         lines: "",
     },
     // What holds a span is listed. A span is open as long as something is listed for it, here its child, which one
@@ -129,17 +129,32 @@ Ok([Id { number: 1 }, Id { number: 2 }, Id { number: 3 }])
 Ok([Held { id: Id { number: 2 }, handles: 2, entries: 2 }, Held { id: Id { number: 3 }, handles: 1, entries: 0 }])
 Ok([Held { id: Id { number: 2 }, handles: 2, entries: 2 }])
 Ok([])
-Ok([SpanDetails { id: Id { number: 1 }, meta: Meta { name: \"a\", target: \"app\", level: Info }, parent: None, handles: 0, workers: [], children: 1 }, SpanDetails { id: Id { number: 2 }, meta: Meta { name: \"b\", target: \"app\", level: Info }, parent: Some(Id { number: 1 }), handles: 2, workers: [0, 1], children: 0 }, SpanDetails { id: Id { number: 3 }, meta: Meta { name: \"c\", target: \"app\", level: Info }, parent: None, handles: 1, workers: [], children: 0 }])
+Ok([SpanDetails { id: Id { number: 1 }, meta: Meta { name: \"a\", target: \"app\", level: Info }, \
+    parent: None, handles: 0, workers: [], children: 1 }, SpanDetails { id: Id { number: 2 }, \
+    meta: Meta { name: \"b\", target: \"app\", level: Info }, parent: Some(Id { number: 1 }), \
+    handles: 2, workers: [0, 1], children: 0 }, SpanDetails { id: Id { number: 3 }, \
+    meta: Meta { name: \"c\", target: \"app\", level: Info }, parent: None, handles: 1, \
+    workers: [], children: 0 }])
 Ok([Id { number: 1 }, Id { number: 2 }, Id { number: 3 }])
 Ok([Held { id: Id { number: 2 }, handles: 2, entries: 2 }, Held { id: Id { number: 3 }, handles: 1, entries: 0 }])
 Ok([Held { id: Id { number: 2 }, handles: 2, entries: 2 }])
 Ok([0, 1])
-Ok([SpanDetails { id: Id { number: 1 }, meta: Meta { name: \"a\", target: \"app\", level: Info }, parent: None, handles: 0, workers: [], children: 1 }, SpanDetails { id: Id { number: 2 }, meta: Meta { name: \"b\", target: \"app\", level: Info }, parent: Some(Id { number: 1 }), handles: 2, workers: [0, 1], children: 0 }, SpanDetails { id: Id { number: 3 }, meta: Meta { name: \"c\", target: \"app\", level: Info }, parent: None, handles: 1, workers: [], children: 0 }])
+Ok([SpanDetails { id: Id { number: 1 }, meta: Meta { name: \"a\", target: \"app\", level: Info }, \
+    parent: None, handles: 0, workers: [], children: 1 }, SpanDetails { id: Id { number: 2 }, \
+    meta: Meta { name: \"b\", target: \"app\", level: Info }, parent: Some(Id { number: 1 }), \
+    handles: 2, workers: [0, 1], children: 0 }, SpanDetails { id: Id { number: 3 }, \
+    meta: Meta { name: \"c\", target: \"app\", level: Info }, parent: None, handles: 1, \
+    workers: [], children: 0 }])
 Ok([Id { number: 1 }, Id { number: 2 }, Id { number: 3 }])
 Ok([Held { id: Id { number: 2 }, handles: 2, entries: 2 }, Held { id: Id { number: 3 }, handles: 1, entries: 0 }])
 Ok([Held { id: Id { number: 3 }, handles: 1, entries: 0 }])
 Ok([])
-Ok([SpanDetails { id: Id { number: 1 }, meta: Meta { name: \"a\", target: \"app\", level: Info }, parent: None, handles: 0, workers: [], children: 1 }, SpanDetails { id: Id { number: 2 }, meta: Meta { name: \"b\", target: \"app\", level: Info }, parent: Some(Id { number: 1 }), handles: 2, workers: [0, 1], children: 0 }, SpanDetails { id: Id { number: 3 }, meta: Meta { name: \"c\", target: \"app\", level: Info }, parent: None, handles: 1, workers: [], children: 0 }])
+Ok([SpanDetails { id: Id { number: 1 }, meta: Meta { name: \"a\", target: \"app\", level: Info }, \
+    parent: None, handles: 0, workers: [], children: 1 }, SpanDetails { id: Id { number: 2 }, \
+    meta: Meta { name: \"b\", target: \"app\", level: Info }, parent: Some(Id { number: 1 }), \
+    handles: 2, workers: [0, 1], children: 0 }, SpanDetails { id: Id { number: 3 }, \
+    meta: Meta { name: \"c\", target: \"app\", level: Info }, parent: None, handles: 1, \
+    workers: [], children: 0 }])
 = open
 = open
 = open
@@ -148,13 +163,19 @@ Ok([Id { number: 1 }, Id { number: 2 }, Id { number: 3 }])
 Ok([Held { id: Id { number: 2 }, handles: 0, entries: 1 }, Held { id: Id { number: 3 }, handles: 1, entries: 0 }])
 Ok([Held { id: Id { number: 2 }, handles: 0, entries: 1 }])
 Ok([])
-Ok([SpanDetails { id: Id { number: 1 }, meta: Meta { name: \"a\", target: \"app\", level: Info }, parent: None, handles: 0, workers: [], children: 1 }, SpanDetails { id: Id { number: 2 }, meta: Meta { name: \"b\", target: \"app\", level: Info }, parent: Some(Id { number: 1 }), handles: 0, workers: [0], children: 0 }, SpanDetails { id: Id { number: 3 }, meta: Meta { name: \"c\", target: \"app\", level: Info }, parent: None, handles: 1, workers: [], children: 0 }])
+Ok([SpanDetails { id: Id { number: 1 }, meta: Meta { name: \"a\", target: \"app\", level: Info }, \
+    parent: None, handles: 0, workers: [], children: 1 }, SpanDetails { id: Id { number: 2 }, \
+    meta: Meta { name: \"b\", target: \"app\", level: Info }, parent: Some(Id { number: 1 }), \
+    handles: 0, workers: [0], children: 0 }, SpanDetails { id: Id { number: 3 }, \
+    meta: Meta { name: \"c\", target: \"app\", level: Info }, parent: None, handles: 1, \
+    workers: [], children: 0 }])
 = closed
 Ok([Id { number: 3 }])
 Ok([Held { id: Id { number: 3 }, handles: 1, entries: 0 }])
 Err(Unknown)
 Ok([])
-Ok([SpanDetails { id: Id { number: 3 }, meta: Meta { name: \"c\", target: \"app\", level: Info }, parent: None, handles: 1, workers: [], children: 0 }])
+Ok([SpanDetails { id: Id { number: 3 }, meta: Meta { name: \"c\", target: \"app\", level: Info }, \
+    parent: None, handles: 1, workers: [], children: 0 }])
 = closed
 Ok([])
 Ok([])
@@ -162,7 +183,7 @@ Err(Unknown)
 Ok([])
 Ok([])
 ",
-        numbers: "left 0 handles 0 entries 0 calls 14 made 3 closed 3 refused 0",
+        numbers: "left 0 handles 0 entries 0 calls 14 made 3 closed 3 missed 0",
         lines: "",
     },
 ];
@@ -209,7 +230,7 @@ static TOLD: [Ending<'static>; 5] = [
 = closed
 = closed
 ",
-        numbers: "left 0 handles 0 entries 0 calls 14 made 3 closed 3 refused 0",
+        numbers: "left 0 handles 0 entries 0 calls 14 made 3 closed 3 missed 0",
         lines: "\
 0 0 0 new 1 w0 a
 0 1 1 new 1 w0 a
@@ -236,7 +257,7 @@ static TOLD: [Ending<'static>; 5] = [
             (0, Act::Close(1)),
         ],
         answers: "= 1\n= recorded\n= told\n= closed\n",
-        numbers: "left 0 handles 0 entries 0 calls 4 made 1 closed 1 refused 0",
+        numbers: "left 0 handles 0 entries 0 calls 4 made 1 closed 1 missed 0",
         lines: "\
 0 0 0 {\"fields\":[[\"k\",\"1\"]],\"id\":1,\"kind\":\"new\",\"path\":\"a\",\"worker\":0}
 0 1 1 new 1 w0 a k=1
@@ -262,7 +283,7 @@ static TOLD: [Ending<'static>; 5] = [
             (0, Act::Close(1)),
         ],
         answers: "= 1\n= 2\n= cloned\n= recorded\n= told\n= open\n= closed\n= closed\n",
-        numbers: "left 0 handles 0 entries 0 calls 8 made 2 closed 2 refused 0",
+        numbers: "left 0 handles 0 entries 0 calls 8 made 2 closed 2 missed 0",
         lines: "\
 0 0 0 new 1 w0 a
 1 0 0 new 2 w1 b
@@ -284,7 +305,7 @@ static TOLD: [Ending<'static>; 5] = [
             (0, Act::Close(1)),
         ],
         answers: "= 1\n= 2\n= entered\n= open\n= closed\n= closed\n",
-        numbers: "left 0 handles 0 entries 0 calls 6 made 2 closed 2 refused 0",
+        numbers: "left 0 handles 0 entries 0 calls 6 made 2 closed 2 missed 0",
         lines: "\
 0 0 0 new 1 w0 b
 1 0 0 new 2 w0 a
@@ -306,7 +327,7 @@ static TOLD: [Ending<'static>; 5] = [
             (1, Act::Close(3)),
         ],
         answers: "= 1\n= 2\n= 3\n= open\n= open\n= closed\n",
-        numbers: "left 0 handles 0 entries 0 calls 6 made 3 closed 3 refused 0",
+        numbers: "left 0 handles 0 entries 0 calls 6 made 3 closed 3 missed 0",
         lines: "\
 5 0 0 close 3 w1 a:b:c
 5 1 0 close 2 w1 a:b

@@ -125,7 +125,7 @@ Ok(Some(Found { name: \"a\", parent: None, handles: 1, entries: 1, count: 2 }))
 = open
 = closed
 ",
-    numbers: "left 0 handles 0 entries 0 calls 12 made 5 closed 5 refused 0",
+    numbers: "left 0 handles 0 entries 0 calls 12 made 5 closed 5 missed 0",
     lines: "\
 0 0 0 new 1 w0 a
 1 0 0 close 1 w0 a

@@ -1,7 +1,8 @@
 //! Workers that take turns, each in a thread of its own.
 use crate::tests::registry::jobs::{Station, Task, work};
+use crate::tests::registry::layers::PlainRegistry;
 use crate::tests::registry::parts::{Part, gather};
-use span_registry::{DroppableHandle, Outlet, Registry, Setup, Worker};
+use span_registry::{DroppableHandle, Outlet, Setup, Worker};
 use std::alloc::Global;
 use std::process::Abort;
 use std::sync::Wait;
@@ -33,7 +34,7 @@ fn start<
     rt: &'s R,
     scope: &Scope<'s, E>,
     alloc: Global,
-    registry: &'s Registry<H, C, S, O>,
+    registry: &'s PlainRegistry<H, C, S, O>,
     station: Station<H, C, S>,
     task: Task,
 ) -> Running<H, C, S> {
@@ -54,7 +55,7 @@ fn start_all<
     rt: &'s R,
     scope: &Scope<'s, E>,
     alloc: Global,
-    registry: &'s Registry<H, C, S, O>,
+    registry: &'s PlainRegistry<H, C, S, O>,
     stations: Vec<Station<H, C, S>>,
     task: Task,
 ) -> Vec<Running<H, C, S>> {
@@ -88,7 +89,7 @@ fn in_threads<
 >(
     rt: &R,
     alloc: Global,
-    registry: &Registry<H, C, S, O>,
+    registry: &PlainRegistry<H, C, S, O>,
     stations: Vec<Station<H, C, S>>,
     task: Task,
 ) -> Vec<Station<H, C, S>> {
@@ -122,7 +123,7 @@ fn take_each_turn<
 >(
     rt: &R,
     alloc: Global,
-    registry: &Registry<H, C, S, O>,
+    registry: &PlainRegistry<H, C, S, O>,
     stations: Vec<Station<H, C, S>>,
     turns: &[Turn],
 ) -> Vec<Station<H, C, S>> {
@@ -178,7 +179,7 @@ pub(crate) fn take_turns<
 >(
     rt: &R,
     alloc: Global,
-    registry: &Registry<H, C, S, O>,
+    registry: &PlainRegistry<H, C, S, O>,
     workers: Vec<Worker<H, C, S>>,
     turns: &[Turn],
 ) -> Option<Part<H, C, S>> {

@@ -1,5 +1,5 @@
 use Rattle.std.proofs.Common.{sym, ◌∙◌}
-use Rattle.span_slots.specs.Table.{value_at}
+use Rattle.span_slots.specs.Table.{find}
 use Rattle.span_store.specs.inside.Invariant.{spans_of}
 use Rattle.span_store.proofs.Maps.{there_is}
 use Rattle.span_store.proofs.Plain.{entry_at, apart-spans}
@@ -18,7 +18,7 @@ push_details-requires-clause-there c =
     let es = c.args.slots.now.entries in
     let place = place_of (spans_of es) c.deref-id-items.result.now c.loop-id.id-index c.id-item.result c.loop-id.invariant.ids c.loop-id-test.true c.id-item.is in
     let found = entry_at es c.id-item.result (place_there (spans_of es) c.loop-id.id-index c.id-item.result (apart-spans es c.requires.apart) place) in
-    there_is (value_at es c.id-item.result) found.0 found.1
+    there_is (find es c.id-item.result) found.0 found.1
 
 pub loop-id-preserved : goal.loop-id-preserved
 loop-id-preserved c =

@@ -8,4 +8,4 @@ pub returns-in-Err-clause-stopped : goal.returns-in-Err-clause-stopped
 returns-in-Err-clause-stopped g c = refused_call _ _ _ _ (λ core. try_close c.args.worker.now.number _) c.in-Err.field-0.fault c.in_ok-ask.ensures.own c.requires.rounds.0 c.in-Err.ensures.unchanged (λ core. (refl, c.requires.place)) (c.in-Err.ensures.was_refused)
 
 pub returns-in-Ok-clause-rounds : goal.returns-in-Ok-clause-rounds
-returns-in-Ok-clause-rounds g c = one_more_made _ _ _ _ _ c.in_ok-ask.ensures.own c.requires.rounds.0 c.in-Ok.ensures.happened (ap (λ (worker : WorkerView). worker.number) c.in-Ok.ensures.worker) (λ old new is. is_sent _ _ old new _ _ (refl, c.requires.place) is.0)
+returns-in-Ok-clause-rounds g c = one_more_made _ _ _ _ _ c.in_ok-ask.ensures.own c.requires.rounds.0 c.in-Ok.ensures.happened (ap (λ (worker : WorkerView). worker.number) c.in-Ok.ensures.worker) (λ old new is. is_sent _ _ old new _ _ (refl, c.requires.place) is)

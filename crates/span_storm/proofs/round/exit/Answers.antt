@@ -11,4 +11,4 @@ returns-in_err-exit-clause-stopped g c =
     rw (handed_on.1, handed_on.2) (refused_call _ _ _ _ (λ core. exit c.args.worker.now.number c.id.result) _ c.in_ok-ask.ensures.own c.requires.rounds.0 c.in_err-exit.ensures.unchanged (λ core. (refl, c.requires.place)) (c.in_err-exit.ensures.was_refused))
 
 pub returns-clause-rounds : goal.returns-clause-rounds
-returns-clause-rounds g c = one_more_made _ _ _ _ _ c.in_ok-ask.ensures.own c.requires.rounds.0 c.in_ok-exit.ensures.happened (ap (λ (worker : WorkerView). worker.number) c.in_ok-exit.ensures.worker) (λ old new is. is_sent _ _ old new _ _ (refl, c.requires.place) is.0)
+returns-clause-rounds g c = one_more_made _ _ _ _ _ c.in_ok-ask.ensures.own c.requires.rounds.0 c.in_ok-exit.ensures.happened (ap (λ (worker : WorkerView). worker.number) c.in_ok-exit.ensures.worker) (λ old new is. is_sent _ _ old new _ _ (refl, c.requires.place) is)

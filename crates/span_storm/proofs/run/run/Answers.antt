@@ -6,7 +6,6 @@ use Rattle.span_layers.specs.declared.form.Form.{Form}
 use Rattle.span_layers.specs.Filter.{Filter}
 use Rattle.span_outlet.specs.Drain.{DrainView}
 use Rattle.span_outlet.specs.Outlet.{RingName}
-use Rattle.span_outlet.specs.Ring.{places_of}
 use Rattle.span_registry.specs.declared.report.Report.{Report}
 use Rattle.span_registry.specs.Worker.{WorkerView, IsNew}
 use Rattle.span_registry.specs.Share.{ShareView}
@@ -20,12 +19,12 @@ use Rattle.span_storm.proofs.Leaving.{world_is_empty, nothing_left}
 use Rattle.span_storm.proofs.run.run.Goals as goal
 
 -- the ring has so many places
-has_places : (name : Option RingName) (ring : RingName) (places : ℕ) → name ≡ Some ring → places_of ring ≡ places → IsSomeAnd name (λ ring. places_of ring ≡ places)
-has_places name ring places is are = subst (λ (name : Option RingName). IsSomeAnd name (λ ring. places_of ring ≡ places)) (sym is) are
+has_places : (name : Option RingName) (ring : RingName) (places : ℕ) → name ≡ Some ring → ring.places ≡ places → IsSomeAnd name (λ ring. ring.places ≡ places)
+has_places name ring places is are = subst (λ (name : Option RingName). IsSomeAnd name (λ ring. ring.places ≡ places)) (sym is) are
 
 -- what a drained end says where these workers made so many rounds
 storm_end : (limits : Limits) (rounds : ℕ) (rules : List Filter) (forms : List Form) (drain : DrainView) (ring : RingName) (share : ShareView) (workers : List WorkerView) (report : Report)
-    → drain.forms ≡ forms → drain.name ≡ ring → places_of ring ≡ limits.ring → HasAll workers rounds share → ((i : ℕ) (d : WorkerView) → i < limits.workers → IsNew i (slice_index_or workers i d))
+    → drain.forms ≡ forms → drain.name ≡ ring → ring.places ≡ limits.ring → HasAll workers rounds share → ((i : ℕ) (d : WorkerView) → i < limits.workers → IsNew i (slice_index_or workers i d))
     → IsDrainedEnd limits rules drain share report → IsStormEnd limits rounds rules forms report
 storm_end limits rounds rules forms drain ring share workers report same name places all new end =
     let ended = end.end.ended in

@@ -3,8 +3,8 @@ use Rattle.std.specs.Prelude.{is_some, IfSome}
 use Rattle.std.specs.List.{range_with_len}
 use Rattle.span_layers.specs.Note.{plain_note}
 use Rattle.span_forest.specs.Node.{Node, new_node}
-use Rattle.span_forest.specs.Spans.{Spans, find, IsOpen, with_node}
-use Rattle.span_forest.proofs.Adds.{find-with_same}
+use Rattle.span_forest.specs.Spans.{Spans, find, IsOpen, with_entry}
+use Rattle.span_slots.proofs.Entries.{find-with_same}
 use Rattle.span_core.specs.inside.Given.{meta_given, fields_given}
 use Rattle.span_core.proofs.NewSpans.{new_paths}
 use Rattle.span_core.proofs.Remembering.{remembers_new}
@@ -18,11 +18,11 @@ abbrev node : After-as_slice → Node
 node c = new_node (meta_given c.args.new.now.meta) (fields_given c.args.new.now.fields) c.args.new.now.parent c.args.new.now.bits.0
 
 -- the spans have the new one more, under the id that was announced
-spans_are : (c : After-as_slice) → c.add.new.self.spans ≡ with_node c.args.forest.now.spans c.args.new.now.id (node c)
+spans_are : (c : After-as_slice) → c.add.new.self.spans ≡ with_entry c.args.forest.now.spans c.args.new.now.id (node c)
 spans_are c =
     let same : c.in-Ok.field-0 ≡ c.args.new.now.id = cc (c.in-Ok.ensures.id, c.requires.next) in
     ap (λ f. f.spans) c.in-Ok.ensures.forest
-    ∙ (λ j. with_node c.args.forest.now.spans (same j) (new_node (c.in_ok-meta.ensures.meta j) (c.in_ok-fields.ensures.fields j) c.args.new.now.parent c.args.new.now.bits.0))
+    ∙ (λ j. with_entry c.args.forest.now.spans (same j) (new_node (c.in_ok-meta.ensures.meta j) (c.in_ok-fields.ensures.fields j) c.args.new.now.parent c.args.new.now.bits.0))
 
 pub remember_new-requires-clause-open : goal.remember_new-requires-clause-open
 remember_new-requires-clause-open c =

@@ -15,7 +15,7 @@ returns-clause-note c =
     let message = c.message_in-message.result.now in
     let pairs_are : (c.as_str-path.result.now, message) ∷ plain_fields list ≡ note_pairs note =
     ap (λ path. (path, message) ∷ plain_fields list) c.as_str-path.ensures.value
-    ∙ (ap (λ text. (note.path, text) ∷ plain_fields list) c.message_in-message.ensures ∙ ap (λ fields. (note.path, message_in note.tail) ∷ fields) c.as_slice-list.ensures) in
+    ∙ (ap (λ text. (note.path, text) ∷ plain_fields list) c.message_in-message.ensures ∙ ap (λ fields. (note.path, message_in note.event) ∷ fields) c.as_slice-list.ensures) in
     let count_is : length list ≡ length (map field_lengths note.fields) =
     sym (length-map list key_value) ∙ (ap length c.as_slice-list.ensures ∙ sym (length-map note.fields field_lengths)) in
     let len_is = c.in-Some.ensures.len ∙ ap (λ ps. length (packed ps)) pairs_are in

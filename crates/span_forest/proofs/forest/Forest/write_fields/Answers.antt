@@ -1,6 +1,7 @@
 use Rattle.std.proofs.Common.{sym, ◌∙◌}
 use Rattle.std.proofs.lemmas.Bool.{false≢true}
-use Rattle.span_forest.specs.Spans.{find, nodes_of}
+use Rattle.span_slots.specs.Table.{find}
+use Rattle.span_forest.specs.Spans.{nodes_of}
 use Rattle.span_forest.proofs.Writes.{closed_none}
 use Rattle.span_forest.proofs.forest.Forest.write_fields.Goals as goal
 

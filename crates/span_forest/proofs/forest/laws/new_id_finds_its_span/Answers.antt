@@ -1,5 +1,5 @@
 use Rattle.span_forest.specs.Forest.{next_span_id}
-use Rattle.span_forest.proofs.Adds.{find-with_other}
+use Rattle.span_slots.proofs.Entries.{find-with_other}
 use Rattle.span_forest.proofs.Slotted.{found_next}
 use Rattle.span_forest.proofs.forest.laws.new_id_finds_its_span.Goals as goal
 

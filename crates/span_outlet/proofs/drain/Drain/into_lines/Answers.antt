@@ -10,5 +10,5 @@ returns-clause-apart g c = λ missed each. elsewhere c.args.self.forms c.args.se
 
 pub returns-clause-whole : goal.returns-clause-whole
 returns-clause-whole g c =
-    let kept : AreKept c.args.self.forms (numbered c.args.self.taken) (map plain_line c.self.inside.told.lines.items) c.args.self.refused = search rules in
-    λ none_refused. whole _ c.args.self.taken _ _ kept none_refused
+    let kept : AreKept c.args.self.forms (numbered c.args.self.taken) (map plain_line c.self.inside.note_lines.lines.items) c.args.self.missed = search rules in
+    λ none_missed. whole _ c.args.self.taken _ _ kept none_missed

@@ -9,8 +9,8 @@ use Rattle.span_outlet.proofs.drain.Drain.last.Goals as goal
 pub loop-preserved : goal.loop-preserved
 loop-preserved g c =
     let kept = c.loop.invariant in
-    let told = c.tell_next.ensures in
-    let next = told.next in
+    let told = c.take_first.ensures in
+    let next = told.first in
     let fewer = ap length next.stood in
     record {
       name = told.name ∙ kept.name;

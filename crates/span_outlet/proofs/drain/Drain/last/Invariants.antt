@@ -11,11 +11,11 @@ use Rattle.span_outlet.proofs.drain.Drain.last.Given as goal
 abbrev pub invariant-loop : goal.invariant-loop
 invariant-loop g l = record {
   name : name_of_consumer l.consumer ≡ name_of_consumer l.initial.consumer;
-  forms : l.told.forms ≡ l.initial.told.forms;
+  forms : l.note_lines.forms ≡ l.initial.note_lines.forms;
   number : l.taken ≡ length (received l.consumer);
-  kept : AreKept l.told.forms (numbered (map plain_posted (received l.consumer))) (map plain_line l.told.lines.items) l.told.refused;
+  kept : AreKept l.note_lines.forms (numbered (map plain_posted (received l.consumer))) (map plain_line l.note_lines.lines.items) l.note_lines.missed;
   fifo : map plain_posted (received l.consumer ++ known_items l.consumer) ≡ l.ring.sent;
   standing : length (known_items l.consumer) + l.counter ≡ l.standing;
   before : IsPrefix (map plain_posted (received l.initial.consumer)) (map plain_posted (received l.consumer));
-  first : IsPrefix (map plain_line l.initial.told.lines.items) (map plain_line l.told.lines.items);
+  first : IsPrefix (map plain_line l.initial.note_lines.lines.items) (map plain_line l.note_lines.lines.items);
 }

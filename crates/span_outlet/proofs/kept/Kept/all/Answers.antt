@@ -7,8 +7,8 @@ use Rattle.span_outlet.proofs.kept.Kept.all.Goals as goal
 
 pub returns-clause-whole : goal.returns-clause-whole
 returns-clause-whole g c =
-    let kept : AreKept c.args.self.now.forms (numbered c.args.self.now.sent) (map plain_line c.as_slice.result.now) c.args.self.now.refused = search rules in
-    λ none_refused. whole _ c.args.self.now.sent _ _ kept none_refused
+    let kept : AreKept c.args.self.now.forms (numbered c.args.self.now.sent) (map plain_line c.as_slice.result.now) c.args.self.now.missed = search rules in
+    λ none_missed. whole _ c.args.self.now.sent _ _ kept none_missed
 
 pub returns-clause-apart : goal.returns-clause-apart
 returns-clause-apart g c = λ missed each. elsewhere c.args.self.now.forms c.args.self.now.sent _ missed each

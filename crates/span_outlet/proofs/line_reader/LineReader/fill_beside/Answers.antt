@@ -8,56 +8,56 @@ use Rattle.span_outlet.proofs.Waiting.{some_wait, no_lines, none_wait, none_wait
 use Rattle.span_outlet.proofs.line_reader.LineReader.fill_beside.Goals as goal
 
 pub returns-then-not-is_empty-clause-taken : goal.returns-then-not-is_empty-clause-taken
-returns-then-not-is_empty-clause-taken g c = rw (← c.self.view_is) (takes_none _ c.self.inside.told.in_range)
+returns-then-not-is_empty-clause-taken g c = rw (← c.self.view_is) (takes_none _ c.self.inside.note_lines.in_range)
 
 pub invariant_of-self-2 : goal.invariant_of-self-2
 invariant_of-self-2 g c =
-    let nothing : c.self.inside.told.lines.items ≡ [] = nil_from_length _ (search rules) in
+    let nothing : c.self.inside.note_lines.lines.items ≡ [] = nil_from_length _ (search rules) in
     let looks : received c.look_beside-standing.new.consumer ≡ received c.self.inside.consumer = search rules in
-    let told : reverse c.reverse.new.self.items ≡ c.take_until_told.new.told.lines.items = as_told _ _ c.reverse.ensures.items in (
-      filled_left _ _ _ _ _ _ _ _ _ _ _ _ _ _ _ _ (ap reverse nothing) c.take_until_told.ensures.forms looks told c.self.invariant.0 c.take_until_told.ensures.batches,
-      subst (OfLast _) (sym told) c.take_until_told.ensures.last,
-      c.take_until_told.ensures.number,
-      subst (HaveNotes _ _ _) (sym told) c.take_until_told.ensures.notes,
+    let told : reverse c.reverse.new.self.items ≡ c.take_until_line.new.note_lines.lines.items = as_told _ _ c.reverse.ensures.items in (
+      filled_left _ _ _ _ _ _ _ _ _ _ _ _ _ _ _ _ (ap reverse nothing) c.take_until_line.ensures.forms looks told c.self.invariant.0 c.take_until_line.ensures.batches,
+      subst (OfLast _) (sym told) c.take_until_line.ensures.last,
+      c.take_until_line.ensures.number,
+      subst (HaveNotes _ _ _) (sym told) c.take_until_line.ensures.notes,
     )
 
 pub returns-clause-taken : goal.returns-clause-taken
 returns-clause-taken g c =
-    let nothing : c.self.inside.told.lines.items ≡ [] = nil_from_length _ (search rules) in
+    let nothing : c.self.inside.note_lines.lines.items ≡ [] = nil_from_length _ (search rules) in
     let looks : received c.look_beside-standing.new.consumer ≡ received c.self.inside.consumer = search rules in
-    let told : reverse c.reverse.new.self.items ≡ c.take_until_told.new.told.lines.items = as_told _ _ c.reverse.ensures.items in
-    rw (← c.self.view_is) (filled_takes _ _ _ _ _ _ _ _ _ _ _ _ _ _ _ _ (ap reverse nothing) looks told c.take_until_told.ensures.batches)
+    let told : reverse c.reverse.new.self.items ≡ c.take_until_line.new.note_lines.lines.items = as_told _ _ c.reverse.ensures.items in
+    rw (← c.self.view_is) (filled_takes _ _ _ _ _ _ _ _ _ _ _ _ _ _ _ _ (ap reverse nothing) looks told c.take_until_line.ensures.batches)
 
 pub returns-clause-sent : goal.returns-clause-sent
 returns-clause-sent g c =
-    let told : reverse c.reverse.new.self.items ≡ c.take_until_told.new.told.lines.items = as_told _ _ c.reverse.ensures.items in
-    all_taken _ _ _ _ _ told c.take_until_told.ensures.none_left (c.take_until_told.ensures.fifo ∙ c.look_beside-standing.ensures.fifo)
+    let told : reverse c.reverse.new.self.items ≡ c.take_until_line.new.note_lines.lines.items = as_told _ _ c.reverse.ensures.items in
+    all_taken _ _ _ _ _ told c.take_until_line.ensures.none_left (c.take_until_line.ensures.fifo ∙ c.look_beside-standing.ensures.fifo)
 
 pub returns-clause-read : goal.returns-clause-read
 returns-clause-read g c = λ nothing. all_given _ _ (invariant_of-self-2 g c).0 (returns-clause-sent g c nothing) nothing
 
 pub returns-clause-whole : goal.returns-clause-whole
-returns-clause-whole g c = λ nothing none_refused. all_whole _ _ (returns-clause-read g c nothing) none_refused
+returns-clause-whole g c = λ nothing none_missed. all_whole _ _ (returns-clause-read g c nothing) none_missed
 
 pub returns-then-not-is_empty-clause-answer : goal.returns-then-not-is_empty-clause-answer
-returns-then-not-is_empty-clause-answer g c = (λ _. some_wait c.self.inside.told.lines.items _ _ c.is_empty.ensures (omega (arith, c.self.inside.told.lines.ok.0)) c.if-not-is_empty.true, λ _. search rules)
+returns-then-not-is_empty-clause-answer g c = (λ _. some_wait c.self.inside.note_lines.lines.items _ _ c.is_empty.ensures (omega (arith, c.self.inside.note_lines.lines.ok.0)) c.if-not-is_empty.true, λ _. search rules)
 
 pub returns-then-not-is_empty-clause-looked : goal.returns-then-not-is_empty-clause-looked
-returns-then-not-is_empty-clause-looked g c = rw (← c.self.view_is) (not_looked _ _ (some_wait c.self.inside.told.lines.items _ _ c.is_empty.ensures (omega (arith, c.self.inside.told.lines.ok.0)) c.if-not-is_empty.true))
+returns-then-not-is_empty-clause-looked g c = rw (← c.self.view_is) (not_looked _ _ (some_wait c.self.inside.note_lines.lines.items _ _ c.is_empty.ensures (omega (arith, c.self.inside.note_lines.lines.ok.0)) c.if-not-is_empty.true))
 
 pub returns-then-not-is_empty-clause-sent : goal.returns-then-not-is_empty-clause-sent
 returns-then-not-is_empty-clause-sent g c = λ none.
-    let some = some_wait c.self.inside.told.lines.items _ _ c.is_empty.ensures (omega (arith, c.self.inside.told.lines.ok.0)) c.if-not-is_empty.true in
+    let some = some_wait c.self.inside.note_lines.lines.items _ _ c.is_empty.ensures (omega (arith, c.self.inside.note_lines.lines.ok.0)) c.if-not-is_empty.true in
     absurd (none_wait_here _ some none)
 
 pub returns-then-not-is_empty-clause-read : goal.returns-then-not-is_empty-clause-read
 returns-then-not-is_empty-clause-read g c = λ none.
-    let some = some_wait c.self.inside.told.lines.items _ _ c.is_empty.ensures (omega (arith, c.self.inside.told.lines.ok.0)) c.if-not-is_empty.true in
+    let some = some_wait c.self.inside.note_lines.lines.items _ _ c.is_empty.ensures (omega (arith, c.self.inside.note_lines.lines.ok.0)) c.if-not-is_empty.true in
     absurd (none_wait_here _ some none)
 
 pub returns-then-not-is_empty-clause-whole : goal.returns-then-not-is_empty-clause-whole
-returns-then-not-is_empty-clause-whole g c = λ none none_refused.
-    let some = some_wait c.self.inside.told.lines.items _ _ c.is_empty.ensures (omega (arith, c.self.inside.told.lines.ok.0)) c.if-not-is_empty.true in
+returns-then-not-is_empty-clause-whole g c = λ none none_missed.
+    let some = some_wait c.self.inside.note_lines.lines.items _ _ c.is_empty.ensures (omega (arith, c.self.inside.note_lines.lines.ok.0)) c.if-not-is_empty.true in
     absurd (none_wait_here _ some none)
 
 pub returns-clause-answer : goal.returns-clause-answer
@@ -67,4 +67,4 @@ pub returns-clause-none : goal.returns-clause-none
 returns-clause-none g c = none_wait c.reverse.new.self.items _ _ c.is_empty-2.ensures (omega (arith, c.reverse.new.self.ok.0))
 
 pub returns-clause-waited : goal.returns-clause-waited
-returns-clause-waited g c = rw (← c.self.view_is) (λ some. absurd (none_waited c.self.inside.told.lines.items (no_lines _ _ _ c.is_empty.ensures (omega (arith, c.self.inside.told.lines.ok.0)) c.if-not-is_empty.false) some))
+returns-clause-waited g c = rw (← c.self.view_is) (λ some. absurd (none_waited c.self.inside.note_lines.lines.items (no_lines _ _ _ c.is_empty.ensures (omega (arith, c.self.inside.note_lines.lines.ok.0)) c.if-not-is_empty.false) some))

@@ -42,6 +42,6 @@ returns-clause-was_released g c =
     })
     (rw (← c.worker.view_is) (
       c.accepted_releases_close_what_nothing_holds.ensures _ _ _ accepted refl,
-      rw c.in-Ok.ensures.closed (c.the_named_span_closes_first.ensures.exit _ _ _ _ accepted),
+      c.in-Ok.ensures.gone,
       stack_left _ _ _ _ _ _ _ _ accepted.step,
     ))

@@ -42,5 +42,5 @@ returns-clause-was_released g c =
     })
     (rw (← c.worker.view_is, ← c.handle.view_is) (
       c.accepted_releases_close_what_nothing_holds.ensures _ _ _ accepted refl,
-      rw c.in-Ok.ensures.done.1 (c.the_named_span_closes_first.ensures.try_close _ _ _ _ accepted),
+      c.in-Ok.ensures.done.1,
     ))

@@ -1,5 +1,5 @@
 use Rattle.std.proofs.Math.Nat.{add-zero}
-use Rattle.span_registry.proofs.Free.{free_worker, free_room, free_longer, free_as_long, free_seated, free_refused, free_not_wanted, free_counted}
+use Rattle.span_registry.proofs.Free.{free_worker, free_room, free_longer, free_as_long, free_seated, free_refused, free_not_wanted, free_unwanted, free_counted}
 use Rattle.span_registry.proofs.under_lock.spans.new_span.Goals as goal
 
 pub new_span-new-requires-clause-worker : goal.new_span-new-requires-clause-worker
@@ -27,3 +27,6 @@ invariant_of-locked-2 g c =
 
 pub see-requires : goal.see-requires
 see-requires g c = free_as_long c.locked.invariant c.in-Err.ensures.refused
+
+pub returns-in-Ok-None-clause-unwanted : goal.returns-in-Ok-None-clause-unwanted
+returns-in-Ok-None-clause-unwanted g c = free_unwanted c.locked.invariant (rw c.in-Ok-None.field-0-is at c.in-Ok-None.ensures.not_wanted)

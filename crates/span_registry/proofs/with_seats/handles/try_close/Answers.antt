@@ -27,7 +27,7 @@ returns-in-Err-clause-seated g c =
 
 pub returns-in-Ok-clause-done : goal.returns-in-Ok-clause-done
 returns-in-Ok-clause-done g c =
-    (counted_of _ _ _ _ c.what_was_sent_is_legal.ensures.legal c.what_was_sent_is_legal-in-Ok.ensures.legal c.what_was_sent_is_legal-in-Ok.ensures.fits c.in-Ok.ensures.accepted, c.in-Ok.ensures.closed)
+    (counted_of _ _ _ _ c.what_was_sent_is_legal.ensures.legal c.what_was_sent_is_legal-in-Ok.ensures.legal c.what_was_sent_is_legal-in-Ok.ensures.fits c.in-Ok.ensures.accepted, rw c.in-Ok.ensures.closed (c.the_named_span_closes_first.ensures.try_close _ _ _ _ c.in-Ok.ensures.accepted))
 
 pub split-requires : goal.split-requires
 split-requires g c = joined_opens c.args.root.now c.try_close_with.new.state _ _ (c.in-Err.ensures.not_shown ∙ c.join.ensures.root) c.join.ensures.is_open

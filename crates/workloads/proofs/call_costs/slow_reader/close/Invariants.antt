@@ -1,5 +1,0 @@
-use Rattle.std.proofs.Common.{◌≡◌}
-use Rattle.workloads.proofs.call_costs.slow_reader.close.Given as goal
-
-abbrev pub invariant-loop : goal.invariant-loop
-invariant-loop g l = l.worker ≡ record l.initial.worker { seen = l.worker.seen }

@@ -1,5 +1,0 @@
-use Rattle.std.proofs.Common.{◌≡◌, ◌+◌, vec_len}
-use Rattle.workloads.proofs.soak.caller.Caller.give_back.Given as goal
-
-abbrev pub invariant-loop : goal.invariant-loop
-invariant-loop g l = l.self.worker.spare + vec_len l.self.hands ≡ l.initial.self.worker.spare + vec_len l.initial.self.hands
