@@ -117,7 +117,9 @@ pub fn kinds<'v, V: JsonValue<'v>>(line: V) -> Result<FmtSpan, Reason>
         return Ok(FmtSpan::FULL);
     };
     match value.number() {
-        Some(bits) if bits <= u64::from(FmtSpan::FULL.bits()) => Ok(FmtSpan::from_bits_retain(bits as u8)),
+        Some(bits) if bits <= u64::from(FmtSpan::FULL.bits()) => Ok(FmtSpan::from_bits_retain(
+            bits as u8,
+        )),
         _ => Err(Reason::BadKey(Key::Spans)),
     }
 }
