@@ -4,7 +4,7 @@ use crate::stop::Stop;
 use span_forest::Span;
 use span_id::{Field, Fields, Id, Level, Meta, SharedMeta};
 use span_layers::{
-    ByForm, ByRule, FmtSpan, Form, Hooks, Kind, Layer, Layers, Note, Rule, Style, Tellers,
+    ByForm, ByRule, FmtSpan, Form, Formatting, Hooks, Kind, Layer, Layers, Note, Rule, Style,
 };
 use span_outlet::Line;
 use span_stack::SpanStack;
@@ -47,8 +47,8 @@ pub(crate) fn shared_fields_of(alloc: Global, pairs: &[(&str, &str)]) -> Result<
     Ok(Fields::new(alloc, fields_of(alloc, pairs)?)?)
 }
 
-/// The tellers of one layer that has no closures and writes plain text.
-pub(crate) fn plain_tellers(alloc: Global) -> Result<Tellers<ByForm>, Stop> {
+/// The formatting of one layer that has no closures and writes plain text.
+pub(crate) fn plain_formatting(alloc: Global) -> Result<Formatting<ByForm>, Stop> {
     let style = Style {
         form: Form::Compact,
         spans: FmtSpan::FULL,

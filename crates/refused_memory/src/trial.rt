@@ -131,10 +131,8 @@ fn judge<R: Print>(
 // All that can be looked at.
 fn look_at<A, S: Subject<A>>(alloc: Global, subject: &mut S) -> Result<String, AllocError> {
     let mut text = String::new(alloc);
-    match subject.look(&mut text) {
-        Ok(()) => Ok(text),
-        Err(error) => Err(error),
-    }
+    subject.look(&mut text)?;
+    Ok(text)
 }
 
 // Whether something else can be looked at than before.

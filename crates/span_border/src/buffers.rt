@@ -5,19 +5,19 @@ ghost use Rattle.span_border.specs.Buffers.{WritesAll};
 use crate::status::Status;
 use span_id::Id;
 
-/// What C is told of an `S`: a number, or a struct of numbers.
-pub trait ToldOf<S>: Copy {
-    ghost told: { S → Self };
+/// What stands for an `S` in C: a number, or a struct of numbers.
+pub trait InC<S>: Copy {
+    ghost in_c: { S → Self };
 
-    /// What C is told of this one.
-    fn told_of(thing: &S) -> Self
-        ensures { result ≡ told thing.now };
+    /// What stands for this one.
+    fn to_c(thing: &S) -> Self
+        ensures { result ≡ in_c thing.now };
 }
 
-impl ToldOf<Id> for u64 {
-    ghost told = { λ id. id };
+impl InC<Id> for u64 {
+    ghost in_c = { λ id. id };
 
-    fn told_of(id: &Id) -> u64 {
+    fn to_c(id: &Id) -> u64 {
         id.get()
     }
 }
@@ -30,13 +30,13 @@ fn copy_front<T: Copy>(things: &[T], into: &mut [T])
     into[..things.len()].copy_from_slice(things);
 }
 
-// Copies what is told of things to the beginning of a buffer that has room for it.
-fn copy_told<S, T: ToldOf<S>>(things: &[S], into: &mut [T])
+// Copies what stands for things in C to the beginning of a buffer that has room for it.
+fn copy_in_c<S, T: InC<S>>(things: &[S], into: &mut [T])
     requires { length things.now ≤ length into.old }
-    ensures { into.new ≡ map T.told things.now ++ drop (length things.now) into.old }
+    ensures { into.new ≡ map T.in_c things.now ++ drop (length things.now) into.old }
 {
     for (place, thing) in things.iter().enumerate() {
-        into[place] = T::told_of(thing);
+        into[place] = T::to_c(thing);
     }
 }
 
@@ -53,15 +53,15 @@ pub fn write_all<T: Copy>(things: &[T], into: &mut [T], len: &mut usize) -> Stat
     Status::Done
 }
 
-/// Writes what C is told of things, as `write_all` writes things.
-pub fn write_told<S, T: ToldOf<S>>(things: &[S], into: &mut [T], len: &mut usize) -> Status
-    ensures { WritesAll (map T.told things.now) into.old result into.new len.new }
+/// Writes what stands for things in C, as `write_all` writes things.
+pub fn write_in_c<S, T: InC<S>>(things: &[S], into: &mut [T], len: &mut usize) -> Status
+    ensures { WritesAll (map T.in_c things.now) into.old result into.new len.new }
 {
     *len = things.len();
     if things.len() > into.len() {
         return Status::ShortBuffer;
     }
-    copy_told(things, into);
+    copy_in_c(things, into);
     Status::Done
 }
 
@@ -70,5 +70,5 @@ pub fn write_told<S, T: ToldOf<S>>(things: &[S], into: &mut [T], len: &mut usize
 pub fn write_ids(ids: &[Id], into: &mut [u64], len: &mut usize) -> Status
     ensures { WritesAll ids.now into.old result into.new len.new }
 {
-    write_told(ids, into, len)
+    write_in_c(ids, into, len)
 }

@@ -8,7 +8,7 @@ mod numbers;
 mod parts;
 mod status;
 
-pub use buffers::{ToldOf, write_all, write_ids, write_told};
+pub use buffers::{InC, write_all, write_ids, write_in_c};
 pub use handle::Handle;
 pub use holds::Holds;
 pub use numbers::id_number;

@@ -3,6 +3,7 @@ use Rattle.std.proofs.Common.{◌≡◌, true, false, ℕ, ◌<◌, Bool, cond, 
 use Rattle.std.proofs.lemmas.Bool.{cases_Bool}
 use Rattle.span_layers.specs.declared.note.Kind.TheVariants.{OnExit, OnRecord, OnEnter}
 use Rattle.span_id.specs.Meta.{KeyValue}
+use Rattle.span_id.specs.Ids.{has}
 use Rattle.span_layers.specs.Note.{PlainNote}
 use Rattle.span_layers.specs.Filter.{Filter}
 use Rattle.span_forest.specs.declared.span.Holder.{Holder}
@@ -12,7 +13,7 @@ use Rattle.span_forest.specs.Spans.{Spans, find, with_change}
 use Rattle.span_forest.specs.Holders.{IsHeld, held_in}
 use Rattle.span_forest.specs.Keep.{with_holder}
 use Rattle.span_forest.specs.Release.{closing_list, spans_left}
-use Rattle.span_stack.specs.Stack.{has, without_last}
+use Rattle.span_stack.specs.Stack.{without_last}
 use Rattle.span_core.specs.World.{IsWorld}
 use Rattle.span_outlet.specs.Request.{enter, entered, exit, exited, clone_span, cloned, record_fields, recorded, try_close, released}
 use Rattle.span_core.specs.Happening.{notes_of_all, close_of, at_span}

@@ -5,11 +5,11 @@ use Rattle.std.specs.List.{range_with_len}
 use Rattle.std.proofs.lemmas.Bool.{cases_Bool, cases_lt, false≢true}
 use Rattle.std.proofs.lemmas.Bool.Decides.{eqb_tells}
 use Rattle.std.proofs.lemmas.List.Sums.{sum_by-cons}
+use Rattle.span_id.specs.Ids.{has}
 use Rattle.span_layers.specs.declared.note.Kind.TheVariants.{OnNew, OnRecord, OnEnter, OnExit, OnClose}
 use Rattle.span_layers.specs.Note.{PlainNote}
 use Rattle.span_layers.specs.Filter.{Filter, layer_wants}
 use Rattle.span_forest.specs.Spans.{Spans}
-use Rattle.span_forest.specs.Live.{stands_in}
 use Rattle.span_core.specs.World.{World}
 use Rattle.span_outlet.specs.Request.{Request, new_span, clone_span, enter, exit, try_close, record_fields, event, Answer, made, cloned, entered, exited, released, recorded, told}
 use Rattle.span_core.specs.Happening.{Happening, at_span, close_of, event_told, happenings, is_told, note_of, notes_of, notes_of_all}
@@ -145,7 +145,7 @@ heard rules worker layer id spans hears (c ∷ cs) =
     ])
 
 -- in a list that has no id twice, an id stands once or not at all
-stands_somewhere : (xs : List ℕ) (x : ℕ) → stands_in x xs ≡ true → (k : ℕ) × (k < length xs) × ((d : ℕ) → get_or xs k d ≡ x)
+stands_somewhere : (xs : List ℕ) (x : ℕ) → has xs x ≡ true → (k : ℕ) × (k < length xs) × ((d : ℕ) → get_or xs k d ≡ x)
 stands_somewhere [] x h = absurd (false≢true h)
 stands_somewhere (y ∷ ys) x h =
     elim (eqb_tells y x) [
@@ -156,13 +156,13 @@ stands_somewhere (y ∷ ys) x h =
 AllPairs-tail : (R : ℕ → ℕ → Type 0) (x : ℕ) (xs : List ℕ) → AllPairs R (x ∷ xs) → AllPairs R xs
 AllPairs-tail R x xs h i j d low high = h (suc i) (suc j) d (omega (arith, low)) (omega (arith, high))
 
-counted_once : (xs : List ℕ) (id : ℕ) → AllPairs (λ first later. first ≢ later) xs → tally (λ c. c == id) xs ≡ one (stands_in id xs)
+counted_once : (xs : List ℕ) (id : ℕ) → AllPairs (λ first later. first ≢ later) xs → tally (λ c. c == id) xs ≡ one (has xs id)
 counted_once [] id apart = refl
 counted_once (x ∷ xs) id apart =
     let rest = counted_once xs id (AllPairs-tail (λ first later. first ≢ later) x xs apart) in
     elim (eqb_tells x id) [
-      | inl t ↦ (let alone : stands_in id xs ≡ false =
-          elim (cases_Bool (stands_in id xs)) [
+      | inl t ↦ (let alone : has xs id ≡ false =
+          elim (cases_Bool (has xs id)) [
             | inl u ↦ (let k = stands_somewhere xs id u in absurd (apart 0 (suc k.0) 0 (omega arith) (let low = k.1 in omega (arith, low)) (t.1 ∙ sym (k.2 0))))
             | inr u ↦ u
           ] in
@@ -180,11 +180,11 @@ and_true true = refl
 and_true false = refl
 
 pub closes_counted : (rules : List Filter) (worker layer id : ℕ) (spans : Spans) (closed : List ℕ) → AllPairs (λ first later. first ≢ later) closed
-    → tally (tells_close layer id) (closes rules worker spans closed) ≡ one (stands_in id closed && hears_close rules spans layer id)
+    → tally (tells_close layer id) (closes rules worker spans closed) ≡ one (has closed id && hears_close rules spans layer id)
 closes_counted rules worker layer id spans closed apart =
     elim (cases_Bool (hears_close rules spans layer id)) [
-      | inl t ↦ heard rules worker layer id spans t closed ∙ counted_once closed id apart ∙ ap one (sym (ap (λ b. stands_in id closed && b) t ∙ and_true (stands_in id closed)))
-      | inr t ↦ unheard rules worker layer id spans t closed ∙ ap one (sym (ap (λ b. stands_in id closed && b) t ∙ and_false (stands_in id closed)))
+      | inl t ↦ heard rules worker layer id spans t closed ∙ counted_once closed id apart ∙ ap one (sym (ap (λ b. has closed id && b) t ∙ and_true (has closed id)))
+      | inr t ↦ unheard rules worker layer id spans t closed ∙ ap one (sym (ap (λ b. has closed id && b) t ∙ and_false (has closed id)))
     ]
 
 -- a happening of another kind adds none

@@ -5,16 +5,15 @@ use Rattle.std.proofs.lemmas.Bool.{cases_Bool, cases_lt, false≢true}
 use Rattle.std.proofs.lemmas.List.{get_or_past}
 use Rattle.std.proofs.lemmas.List.Sums.{get_or-le-sum_by}
 use Rattle.span_id.specs.Meta.{KeyValue}
+use Rattle.span_id.specs.Ids.{has}
 use Rattle.span_layers.specs.Filter.{Filter, admission_set}
 use Rattle.span_forest.specs.declared.span.Holder.{Holder}
 use Rattle.span_forest.specs.declared.span.Holder.TheVariants.{Handle, Entry}
 use Rattle.span_forest.specs.Node.{Node, with_fields}
 use Rattle.span_forest.specs.Spans.{Spans, find, IsOpen, with_entry, with_change}
 use Rattle.span_forest.specs.Count.{holders}
-use Rattle.span_forest.specs.Live.{stands_in}
 use Rattle.span_forest.specs.Holders.{held_in, with_more}
 use Rattle.span_forest.specs.Release.{without_holder, closing_list, spans_left}
-use Rattle.span_stack.specs.Stack.{has}
 use Rattle.span_core.specs.World.{World, IsWorld, stack_of, workers_inside}
 use Rattle.span_outlet.specs.Request.{Request, new_span, clone_span, enter, exit, try_close, record_fields, event, Answer, made, cloned, entered, exited, released, recorded, told}
 use Rattle.span_core.specs.Step.{Changes, is_open_parent, stays_inside}
@@ -40,7 +39,7 @@ pub record IsQuiet (old : World) (request : Request) (answer : Answer) : Type 0 
 pub record Makes (rules : List Filter) (ids : List ℕ) (old : World) (request : Request) (answer : Answer) (new : World) : Type 0 where
   pub id : ℕ
   pub node : Node
-  pub fresh : stands_in id ids ≡ false
+  pub fresh : has ids id ≡ false
   pub parent : (p : ℕ) → node.parent ≡ Some p → IsOpen old.spans p
   pub held : 0 < holders node
   pub bits : node.bits ≡ admission_set rules node.target node.level

@@ -4,11 +4,11 @@ use Rattle.std.specs.Prelude.{All}
 use Rattle.std.specs.List.{AllByRecursion}
 use Rattle.std.proofs.lemmas.List.Elements.{recursion_from_All}
 use Rattle.std.proofs.lemmas.List.Sums.{sum_by-cons}
+use Rattle.span_id.specs.Ids.{has}
 use Rattle.span_forest.specs.declared.span.Holder.TheVariants.{Handle, Entry}
 use Rattle.span_forest.specs.Spans.{find}
 use Rattle.span_forest.specs.Holders.{held_in}
 use Rattle.span_forest.proofs.Upheld.{IsUpheld, empty_from_none_held}
-use Rattle.span_stack.specs.Stack.{has}
 use Rattle.span_core.specs.World.{World, IsWorld, workers_inside}
 
 nobody_inside : (stacks : List (List ℕ)) (id : ℕ) → AllByRecursion (λ stack. stack ≡ []) stacks → workers_inside stacks id ≡ 0

@@ -4,11 +4,12 @@ use Rattle.std.specs.Prelude.{is_some}
 use Rattle.std.proofs.lemmas.Bool.{eq-eqb, false≢true}
 use Rattle.std.proofs.lemmas.Bool.Decides.{eqb_tells}
 use Rattle.std.proofs.lemmas.List.Sums.{sum_by-cons}
+use Rattle.span_id.specs.Ids.{has}
 use Rattle.span_forest.specs.declared.span.Holder.TheVariants.{Entry}
 use Rattle.span_forest.specs.Spans.{Spans, find, IsOpen, AreApart}
 use Rattle.span_forest.specs.Count.{total_held, total_handles}
 use Rattle.span_forest.specs.Holders.{held_in}
-use Rattle.span_stack.specs.Stack.{has, first_places}
+use Rattle.span_stack.specs.Stack.{first_places}
 use Rattle.span_stack.proofs.Stacks.{has-first_places, times-first_places}
 use Rattle.span_core.specs.World.{World, IsWorld, workers_inside, entries_in}
 use Rattle.span_core.proofs.Effects.{open_held}

@@ -7,6 +7,7 @@ use Rattle.std.proofs.lemmas.Bool.{cases_Bool, cases_lt, false≢true}
 use Rattle.std.proofs.lemmas.Bool.Decides.{eqb_tells}
 use Rattle.std.proofs.lemmas.List.{get_or_past, take-append-drop}
 use Rattle.span_id.specs.Bits.{has_bit}
+use Rattle.span_id.specs.Ids.{has}
 use Rattle.span_forest.specs.declared.span.Holder.{Holder}
 use Rattle.span_forest.specs.declared.span.Holder.TheVariants.{Entry}
 use Rattle.span_forest.specs.Node.{Node}
@@ -16,7 +17,6 @@ use Rattle.span_forest.specs.Keep.{with_holder}
 use Rattle.span_forest.specs.Release.{spans_left}
 use Rattle.span_slots.proofs.Entries.{find-with_other}
 use Rattle.span_forest.proofs.Nodes.{find-changed_same, find-changed_other}
-use Rattle.span_stack.specs.Stack.{has}
 use Rattle.span_stack.proofs.Entries.{has-append}
 use Rattle.span_core.specs.declared.summary.Summary.{Summary}
 use Rattle.span_core.specs.World.{IsWorld}

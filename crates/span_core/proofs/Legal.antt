@@ -8,13 +8,14 @@ use Rattle.std.proofs.lemmas.List.{get_or-set_same, get_or-set_other, get_or_pas
 use Rattle.std.proofs.lemmas.List.Folds.{list_any-append}
 use Rattle.std.proofs.lemmas.List.Quantifiers.{all_pairs_push}
 use Rattle.std.proofs.lemmas.List.Concat.{flat_map-append}
+use Rattle.span_id.specs.Ids.{has}
 use Rattle.span_layers.specs.Filter.{Filter, admission_set}
 use Rattle.span_forest.specs.declared.span.Holder.{Holder}
 use Rattle.span_forest.specs.declared.span.Holder.TheVariants.{Handle, Entry}
 use Rattle.span_forest.specs.Node.{Node}
 use Rattle.span_forest.specs.Spans.{Spans, find, IsOpen, with_entry, with_change}
 use Rattle.span_forest.specs.Count.{holders}
-use Rattle.span_forest.specs.Live.{stands_in, is_live}
+use Rattle.span_forest.specs.Live.{is_live}
 use Rattle.span_forest.specs.Holders.{with_less}
 use Rattle.span_forest.specs.Release.{without_holder, closing_list, spans_left}
 use Rattle.span_forest.proofs.Nodes.{find-changed_same, find-changed_other, IsOpen-changed, changed_open}
@@ -22,7 +23,7 @@ use Rattle.span_slots.proofs.Entries.{find-with_same, find-with_other}
 use Rattle.span_forest.proofs.Adds.{open_back}
 use Rattle.span_forest.proofs.Spared.{kept_passes, passing_kept, not_some, none_open, gone_exactly, others_stay}
 use Rattle.span_forest.proofs.Upheld.{IsUpheld, upheld_empty, upheld_with, upheld_changed, upheld_released, listed_known}
-use Rattle.span_stack.specs.Stack.{has, without_last}
+use Rattle.span_stack.specs.Stack.{without_last}
 use Rattle.span_core.specs.World.{World, empty_world, stack_of}
 use Rattle.span_outlet.specs.Request.{Request, new_span, clone_span, enter, exit, try_close, record_fields, event, Answer, made, cloned, entered, exited, released, recorded, told}
 use Rattle.span_outlet.specs.Batch.{PlainBatch}
@@ -39,10 +40,10 @@ use Rattle.span_core.proofs.Effects.Effect.{stays, changes, makes, frees}
 -- the spans that are open after these ids were issued and these closed
 pub record IsSettled (rules : List Filter) (ids closed : List ℕ) (spans : Spans) : Type 0 where
   pub upheld : IsUpheld spans
-  pub open_issued : (id : ℕ) → IsOpen spans id → stands_in id ids ≡ true
-  pub closed_issued : (id : ℕ) → stands_in id closed ≡ true → stands_in id ids ≡ true
-  pub closed_gone : (id : ℕ) → stands_in id closed ≡ true → find spans id ≡ None
-  pub rest_open : (id : ℕ) → stands_in id ids ≡ true → stands_in id closed ≡ false → IsOpen spans id
+  pub open_issued : (id : ℕ) → IsOpen spans id → has ids id ≡ true
+  pub closed_issued : (id : ℕ) → has closed id ≡ true → has ids id ≡ true
+  pub closed_gone : (id : ℕ) → has closed id ≡ true → find spans id ≡ None
+  pub rest_open : (id : ℕ) → has ids id ≡ true → has closed id ≡ false → IsOpen spans id
   pub once : AllPairs (λ first later. first ≢ later) ids
   pub bits : (id : ℕ) (node : Node) → find spans id ≡ Some node → node.bits ≡ admission_set rules node.target node.level
 
@@ -122,34 +123,34 @@ or_right true b h = refl
 or_right false b h = h
 
 -- an id of the longer list stands in one of its parts
-stands-append : (id : ℕ) (xs ys : List ℕ) → stands_in id (xs ++ ys) ≡ (stands_in id xs || stands_in id ys)
+stands-append : (id : ℕ) (xs ys : List ℕ) → has (xs ++ ys) id ≡ (has xs id || has ys id)
 stands-append id xs ys = list_any-append (λ x. x == id) xs ys
 
-pub stands_before : (id : ℕ) (xs ys : List ℕ) → stands_in id xs ≡ true → stands_in id (xs ++ ys) ≡ true
-stands_before id xs ys h = stands-append id xs ys ∙ or_left (stands_in id xs) (stands_in id ys) h
+pub stands_before : (id : ℕ) (xs ys : List ℕ) → has xs id ≡ true → has (xs ++ ys) id ≡ true
+stands_before id xs ys h = stands-append id xs ys ∙ or_left (has xs id) (has ys id) h
 
-pub stands_after : (id : ℕ) (xs ys : List ℕ) → stands_in id ys ≡ true → stands_in id (xs ++ ys) ≡ true
-stands_after id xs ys h = stands-append id xs ys ∙ or_right (stands_in id xs) (stands_in id ys) h
+pub stands_after : (id : ℕ) (xs ys : List ℕ) → has ys id ≡ true → has (xs ++ ys) id ≡ true
+stands_after id xs ys h = stands-append id xs ys ∙ or_right (has xs id) (has ys id) h
 
-pub stands_either : (id : ℕ) (xs ys : List ℕ) (P : Type 0) → stands_in id (xs ++ ys) ≡ true → (stands_in id xs ≡ true → P) → (stands_in id ys ≡ true → P) → P
-stands_either id xs ys P h left right = either (stands_in id xs) (stands_in id ys) P (sym (stands-append id xs ys) ∙ h) left right
+pub stands_either : (id : ℕ) (xs ys : List ℕ) (P : Type 0) → has (xs ++ ys) id ≡ true → (has xs id ≡ true → P) → (has ys id ≡ true → P) → P
+stands_either id xs ys P h left right = either (has xs id) (has ys id) P (sym (stands-append id xs ys) ∙ h) left right
 
-pub stands_single : (id x : ℕ) → stands_in id (x ∷ []) ≡ true → x ≡ id
+pub stands_single : (id x : ℕ) → has (x ∷ []) id ≡ true → x ≡ id
 stands_single id x h = elim (eqb_tells x id) [ inl t ↦ t.1 | inr t ↦ absurd (let h2 = rw t.0 at h in false≢true h2) ]
 
-pub stands_itself : (id : ℕ) → stands_in id (id ∷ []) ≡ true
+pub stands_itself : (id : ℕ) → has (id ∷ []) id ≡ true
 stands_itself id = elim (eqb_tells id id) [ inl t ↦ rw t.0 refl | inr t ↦ absurd (t.1 refl) ]
 
-stands_at : (xs : List ℕ) (k d : ℕ) → k < length xs → stands_in (get_or xs k d) xs ≡ true
+stands_at : (xs : List ℕ) (k d : ℕ) → k < length xs → has xs (get_or xs k d) ≡ true
 stands_at [] k d h = absurd (omega arith)
-stands_at (x ∷ xs) zero d h = or_left (x == x) (stands_in x xs) (eq-eqb x x refl)
-stands_at (x ∷ xs) (suc k) d h = or_right (x == get_or xs k d) (stands_in (get_or xs k d) xs) (stands_at xs k d (omega arith))
+stands_at (x ∷ xs) zero d h = or_left (x == x) (has xs x) (eq-eqb x x refl)
+stands_at (x ∷ xs) (suc k) d h = or_right (x == get_or xs k d) (has xs (get_or xs k d)) (stands_at xs k d (omega arith))
 
-settled_made : (rules : List Filter) (ids closed : List ℕ) (spans : Spans) (id : ℕ) (node : Node) → stands_in id ids ≡ false → ((p : ℕ) → node.parent ≡ Some p → IsOpen spans p) → 0 < holders node → node.bits ≡ admission_set rules node.target node.level
+settled_made : (rules : List Filter) (ids closed : List ℕ) (spans : Spans) (id : ℕ) (node : Node) → has ids id ≡ false → ((p : ℕ) → node.parent ≡ Some p → IsOpen spans p) → 0 < holders node → node.bits ≡ admission_set rules node.target node.level
     → IsSettled rules ids closed spans → IsSettled rules (ids ++ id ∷ []) closed (with_entry spans id node)
 settled_made rules ids closed spans id node fresh parent held bits w =
     let absent : find spans id ≡ None = not_some (find spans id) (λ o. false≢true (sym fresh ∙ w.open_issued id o)) in
-    let apart : (j : ℕ) → stands_in j ids ≡ true → j ≢ id = λ j there e. false≢true (sym fresh ∙ (ap (λ k. stands_in k ids) (sym e) ∙ there)) in
+    let apart : (j : ℕ) → has ids j ≡ true → j ≢ id = λ j there e. false≢true (sym fresh ∙ (ap (λ k. has ids k) (sym e) ∙ there)) in
     let new_open : IsOpen (with_entry spans id node) id = open_of (with_entry spans id node) id node (find-with_same spans id node absent) in
     let still : (j : ℕ) → j ≢ id → IsOpen spans j → IsOpen (with_entry spans id node) j = λ j ne o. subst IsSome (sym (find-with_other spans id j node ne)) o in
     record {
@@ -170,7 +171,7 @@ settled_made rules ids closed spans id node fresh parent held bits w =
       ];
     }
 
-settled_freed : (rules : List Filter) (ids closed : List ℕ) (spans : Spans) (id : ℕ) (holder : Holder) → stands_in id ids ≡ true
+settled_freed : (rules : List Filter) (ids closed : List ℕ) (spans : Spans) (id : ℕ) (holder : Holder) → has ids id ≡ true
     → IsSettled rules ids closed spans → IsSettled rules ids (closed ++ closing_list spans id holder) (spans_left spans id holder)
 settled_freed rules ids closed spans id holder known w =
     let m = without_holder spans id holder in
@@ -179,14 +180,14 @@ settled_freed rules ids closed spans id holder known w =
     record {
       upheld = upheld_released spans id holder w.upheld.forest;
       open_issued = λ j o. w.open_issued j (back j o);
-      closed_issued = λ j h. stands_either j closed (closing_list spans id holder) (stands_in j ids ≡ true) h
+      closed_issued = λ j h. stands_either j closed (closing_list spans id holder) (has ids j ≡ true) h
           (λ before. w.closed_issued j before)
           (λ now. elim (listed_known spans id holder w.upheld.forest j now) [ inl e ↦ rw (← e) known | inr o ↦ w.open_issued j o ]);
       closed_gone = λ j h. stands_either j closed (closing_list spans id holder) (find (spans_left spans id holder) j ≡ None) h
           (λ before. not_some (find (spans_left spans id holder) j) (λ o. none_open (find spans j) (w.closed_gone j before) (back j o)))
           (λ now. not_some (find (spans_left spans id holder) j) (λ o. none_open (find (spans_left spans id holder) j) ((gone_exactly spans w.upheld.forest w.upheld.positive id holder j (back j o)).0 now) o));
       rest_open = λ j h k.
-          (let both = neither (stands_in j closed) (stands_in j (closing_list spans id holder)) (sym (stands-append j closed (closing_list spans id holder)) ∙ k) in
+          (let both = neither (has closed j) (has (closing_list spans id holder) j) (sym (stands-append j closed (closing_list spans id holder)) ∙ k) in
           subst IsSome (sym (others_stay spans w.upheld.forest w.upheld.positive id holder j (λ t. false≢true (sym both.1 ∙ t)))) (changed_open (with_less holder) spans id j (w.rest_open j h both.0)));
       once = w.once;
       bits = λ j node h.
@@ -236,20 +237,20 @@ stack_step rules ids old _ _ new h w j there = absurd (false≢true (answered h)
 -- what is true of the world that a legal history leaves
 pub record IsWhole (rules : List Filter) (history : List PlainBatch) (world : World) : Type 0 where
   pub settled : IsSettled rules (issued history) (closed_in history) world.spans
-  pub entered_issued : (worker id : ℕ) → has (stack_of world worker) id ≡ true → stands_in id (issued history) ≡ true
+  pub entered_issued : (worker id : ℕ) → has (stack_of world worker) id ≡ true → has (issued history) id ≡ true
 
 settled_same : (rules : List Filter) (ids more_ids closed more_closed : List ℕ) (spans new_spans : Spans) → more_ids ≡ ids → more_closed ≡ closed → new_spans ≡ spans → IsSettled rules ids closed spans → IsSettled rules more_ids more_closed new_spans
 settled_same rules ids more_ids closed more_closed spans new_spans a b c w = rw (a, b, c) w
 
 pub settled_step : (rules : List Filter) (ids closed : List ℕ) (old : World) (request : Request) (answer : Answer) (new : World) → Changes rules ids old request answer new → IsSettled rules ids closed old.spans
-    → ((worker id : ℕ) → has (stack_of old worker) id ≡ true → stands_in id ids ≡ true)
+    → ((worker id : ℕ) → has (stack_of old worker) id ≡ true → has ids id ≡ true)
     → IsSettled rules (ids ++ id_issued answer) (closed ++ closed_by answer) new.spans
 settled_step rules ids closed old request answer new change w inside =
     elim (effect rules ids old request answer new change) [
       | stays same quiet ↦ settled_same rules ids _ closed _ old.spans _ (rw quiet.issued (append_nil ids)) (rw quiet.closed (append_nil closed)) same w
       | changes f id mild other same quiet ↦ settled_same rules ids _ closed _ (with_change f old.spans id) _ (rw quiet.issued (append_nil ids)) (rw quiet.closed (append_nil closed)) same (settled_changed rules ids closed old.spans f id mild w)
       | makes m ↦ settled_same rules (ids ++ m.id ∷ []) _ closed _ (with_entry old.spans m.id m.node) _ (rw m.issued refl) (rw m.closed (append_nil closed)) m.spans (settled_made rules ids closed old.spans m.id m.node m.fresh m.parent m.held m.bits w)
-      | frees m ↦ (let known : stands_in m.id ids ≡ true = elim m.known [ inl o ↦ w.open_issued m.id o | inr k ↦ inside k.0 m.id k.1 ] in
+      | frees m ↦ (let known : has ids m.id ≡ true = elim m.known [ inl o ↦ w.open_issued m.id o | inr k ↦ inside k.0 m.id k.1 ] in
           settled_same rules ids _ (closed ++ closing_list old.spans m.id m.holder) _ (spans_left old.spans m.id m.holder) _ (rw m.issued (append_nil ids)) (rw m.closed refl) m.spans (settled_freed rules ids closed old.spans m.id m.holder known w))
     ]
 
@@ -280,7 +281,7 @@ whole rules workers history new (more {before} {old} batch legal step sent) =
       settled = settled_same rules (issued before ++ id_issued batch.answer) _ (closed_in before ++ closed_by batch.answer) _ new.spans _ ids (ap closed_in sent ∙ closed_more before batch) refl
           (settled_step rules (issued before) (closed_in before) old batch.request batch.answer new step.changes w.settled w.entered_issued);
       entered_issued = λ worker id h.
-          ap (stands_in id) ids
+          ap (λ ids. has ids id) ids
           ∙ stands_before id (issued before) (id_issued batch.answer)
           (elim (stack_step rules (issued before) old batch.request batch.answer new step.changes worker id h) [
             | inl there ↦ w.entered_issued worker id there
@@ -290,8 +291,8 @@ whole rules workers history new (more {before} {old} batch legal step sent) =
 
 -- the open spans are those that were issued and didn't close
 pub open_exactly : (rules : List Filter) (ids closed : List ℕ) (spans : Spans) → IsSettled rules ids closed spans → (id : ℕ)
-    → IsOpen spans id ↔ ((stands_in id ids ≡ true) × (stands_in id closed ≡ true → ⊥))
+    → IsOpen spans id ↔ ((has ids id ≡ true) × (has closed id ≡ true → ⊥))
 open_exactly rules ids closed spans w id = (
   λ o. (w.open_issued id o, λ gone. none_open (find spans id) (w.closed_gone id gone) o),
-  λ both. elim (cases_Bool (stands_in id closed)) [ inl t ↦ absurd (both.1 t) | inr t ↦ w.rest_open id both.0 t ],
+  λ both. elim (cases_Bool (has closed id)) [ inl t ↦ absurd (both.1 t) | inr t ↦ w.rest_open id both.0 t ],
 )

@@ -2,13 +2,13 @@
 use Rattle.std.proofs.Common.{◌≡◌, ℕ, ◌<◌, cond, List, [], ◌∷◌, ◌++◌, length, get_or, set, refl, sym, ap, ◌∙◌, subst}
 use Rattle.std.proofs.lemmas.Bool.{false≢true}
 use Rattle.std.proofs.lemmas.List.{length-set, length-replicate}
+use Rattle.span_id.specs.Ids.{has}
 use Rattle.span_layers.specs.Filter.{Filter}
 use Rattle.span_forest.specs.declared.span.Holder.TheVariants.{Handle, Entry}
 use Rattle.span_forest.specs.Node.{with_fields}
 use Rattle.span_forest.specs.Spans.{find}
 use Rattle.span_forest.specs.Keep.{with_holder}
 use Rattle.span_forest.proofs.Spared.{not_some}
-use Rattle.span_stack.specs.Stack.{has}
 use Rattle.span_core.specs.World.{World, IsWorld}
 use Rattle.span_outlet.specs.Request.{Request, new_span, clone_span, enter, exit, try_close, record_fields, event, Answer, made, cloned, entered, exited, released, recorded, told, worker_of}
 use Rattle.span_outlet.specs.Batch.{PlainBatch}

@@ -14,6 +14,7 @@ use Rattle.span_id.specs.declared.limits.Limits.{Limits}
 use Rattle.span_slots.specs.Table.{IsIssued}
 use Rattle.span_layers.specs.declared.note.Kind.TheVariants.{OnNew}
 use Rattle.span_id.specs.Meta.{KeyValue, PlainMeta}
+use Rattle.span_id.specs.Ids.{has}
 use Rattle.span_layers.specs.declared.note.Note.{Note}
 use Rattle.span_layers.specs.Note.{PlainNote, plain_note}
 use Rattle.span_layers.specs.Filter.{Filter, layer_wants, admission_set}
@@ -22,7 +23,6 @@ use Rattle.span_forest.specs.Spans.{Spans, find, IsOpen, with_entry, parent_in, 
 use Rattle.span_forest.specs.declared.span.Holder.TheVariants.{Entry}
 use Rattle.span_forest.specs.Holders.{held_in}
 use Rattle.span_forest.specs.Forest.{ForestView, table_of, next_span_id}
-use Rattle.span_forest.specs.Live.{stands_in}
 use Rattle.span_forest.specs.Walk.{walk_within}
 use Rattle.span_forest.specs.Path.{path, path_text, names_for, name_for}
 use Rattle.span_slots.proofs.Entries.{find-with_same, find-with_other}
@@ -169,7 +169,7 @@ world_new spans id node stacks gone none whole = record { entered = λ j. same j
         ]
 
 pub step_new : (rules : List Filter) (ids : List ℕ) (spans new_spans : Spans) (stacks : List (List ℕ)) (worker id : ℕ) (meta : PlainMeta) (fields : List KeyValue) (parent : Option ℕ) (notes : List PlainNote)
-    → worker < length stacks → IsId id → stands_in id ids ≡ false → is_wanted_meta rules meta ≡ true → is_open_parent spans parent ≡ true
+    → worker < length stacks → IsId id → has ids id ≡ false → is_wanted_meta rules meta ≡ true → is_open_parent spans parent ≡ true
     → new_spans ≡ with_entry spans id (new_node meta fields parent (admission_set rules meta.target meta.level))
     → notes ≡ notes_of_all rules worker (at_span new_spans OnNew id fields ∷ [])
     → IsStep rules ids (record { spans = spans; stacks = stacks }) (new_span worker meta fields parent) (made id) notes (record { spans = new_spans; stacks = stacks })
@@ -190,17 +190,17 @@ step_new rules ids spans new_spans stacks worker id meta fields parent notes wit
 
 -- an id that no slot has given was not issued by the history
 pub not_in_history : (limits : Limits) (rules : List Filter) (forest : ForestView) (stacks : List (List ℕ)) (calls : ℕ) (sent : List PlainBatch) (id : ℕ) → IsSound limits forest stacks rules calls sent
-    → (generation_of id < slice_index forest.given (slot_of id) → ⊥) → stands_in id (issued sent) ≡ false
+    → (generation_of id < slice_index forest.given (slot_of id) → ⊥) → has (issued sent) id ≡ false
 not_in_history limits rules forest stacks calls sent id sound never =
-    elim (cases_Bool (stands_in id (issued sent))) [ inl t ↦ absurd (never (sound.counted id t)) | inr t ↦ t ]
+    elim (cases_Bool (has (issued sent) id)) [ inl t ↦ absurd (never (sound.counted id t)) | inr t ↦ t ]
 
 -- the next id of sound parts is new: it is the forest's, of which that is known
 pub next_is_new : (limits : Limits) (rules : List Filter) (forest : ForestView) (stacks : List (List ℕ)) (calls : ℕ) (sent : List PlainBatch) → IsSound limits forest stacks rules calls sent
     → IfSome (next_span_id forest) IsId → IfSome (next_span_id forest) (λ id. IsIssued (table_of forest) id → ⊥)
-    → IfSome (next_id_after limits.slots limits.last_generation sent) (λ id. IsId id × (stands_in id (issued sent) ≡ false))
+    → IfSome (next_id_after limits.slots limits.last_generation sent) (λ id. IsId id × (has (issued sent) id ≡ false))
 next_is_new limits rules forest stacks calls sent sound in_layout never =
-    subst (λ (o : Option ℕ). IfSome o (λ id. IsId id × (stands_in id (issued sent) ≡ false))) (ap next_span_id sound.forest_is) (by_case (next_span_id forest) in_layout never)
+    subst (λ (o : Option ℕ). IfSome o (λ id. IsId id × (has (issued sent) id ≡ false))) (ap next_span_id sound.forest_is) (by_case (next_span_id forest) in_layout never)
   where
-    by_case : (o : Option ℕ) → IfSome o IsId → IfSome o (λ id. IsIssued (table_of forest) id → ⊥) → IfSome o (λ id. IsId id × (stands_in id (issued sent) ≡ false))
+    by_case : (o : Option ℕ) → IfSome o IsId → IfSome o (λ id. IsIssued (table_of forest) id → ⊥) → IfSome o (λ id. IsId id × (has (issued sent) id ≡ false))
     by_case None there unissued = tt
     by_case (Some id) there unissued = (there, not_in_history limits rules forest stacks calls sent id sound unissued)

@@ -2,11 +2,11 @@
 use Rattle.std.proofs.Common.{◌≡◌, ℕ, ◌<◌, true, List, refl, sym, ap, ◌∙◌, inl, inr, arith}
 use Rattle.std.specs.Prelude.{count_by, ◌&&◌, if◌then◌else◌}
 use Rattle.std.proofs.lemmas.Bool.{cases_lt, false≢true}
+use Rattle.span_id.specs.Ids.{has}
 use Rattle.span_layers.specs.Filter.{Filter}
 use Rattle.span_forest.specs.Spans.{find, IsOpen}
 use Rattle.span_forest.specs.Count.{holders_in}
 use Rattle.span_forest.specs.Forest.{IsForest}
-use Rattle.span_forest.specs.Live.{stands_in}
 use Rattle.span_forest.specs.Holders.{with_less}
 use Rattle.span_forest.proofs.Ranks.{ranked}
 use Rattle.span_forest.proofs.Nodes.{with_less-parent, IsForest-changed}
@@ -42,7 +42,7 @@ zero_or n h = elim (cases_lt 0 n) [ inl t ↦ absurd (h t) | inr t ↦ omega (ar
 
 pub releases : (workers : ℕ) (old : CoreView) (request : Request) (answer : Answer) (new : CoreView) → IsLegal old.rules workers old.sent old.world → IsWorld old.world
     → (accepted : IsAccepted old request answer new)
-    → ((layer id : ℕ) → count_by (tells_close layer id) accepted.notes ≡ (if stands_in id (closed_by answer) && hears_close old.rules old.world.spans layer id then 1 else 0))
+    → ((layer id : ℕ) → count_by (tells_close layer id) accepted.notes ≡ (if has (closed_by answer) id && hears_close old.rules old.world.spans layer id then 1 else 0))
     → gives_back request ≡ true → ClosesWhatNothingHolds old request new
 releases workers old request answer new legal world accepted announced gives =
     let batch : PlainBatch = record { request = request; answer = answer; notes = accepted.notes } in

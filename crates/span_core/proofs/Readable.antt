@@ -29,6 +29,6 @@ seen_open spans layer (id ∷ ids) =
     ]
 
 pub place_readable : (spans : Spans) (subject : Subject) (layer : ℕ) → IsThere spans subject → IsReadable spans subject (place_told spans subject layer)
-place_readable spans (Span id seen) layer there = there
+place_readable spans (Span id span) layer there = there
 place_readable spans (NewSpan id parent name) layer there = tt
 place_readable spans (Event around level message) layer there = seen_open spans layer (distinct_from_top (ids_around around))

@@ -2,9 +2,10 @@
 use Rattle.std.proofs.Common.{◌≡◌, ◌≢◌, ℕ, true, false, List, [], Some, None, IsTrue, refl, sym, ap, subst, ◌∙◌}
 use Rattle.std.specs.Prelude.{◌↔◌, IsSome, AllPairs}
 use Rattle.std.proofs.lemmas.Bool.{false≢true}
+use Rattle.span_id.specs.Ids.{has}
 use Rattle.span_layers.specs.Filter.{Filter}
 use Rattle.span_forest.specs.Spans.{Spans, find, IsOpen, parent_of, with_entry}
-use Rattle.span_forest.specs.Live.{stands_in, is_live}
+use Rattle.span_forest.specs.Live.{is_live}
 use Rattle.span_forest.proofs.Ranks.{ranked}
 use Rattle.span_forest.proofs.Walks.{all_live}
 use Rattle.span_forest.proofs.Nodes.{changed_open}
@@ -21,11 +22,11 @@ use Rattle.span_core.proofs.Legal.{IsSettled, AllPairs-nil}
 
 -- the spans of the list closed, and no others
 abbrev pub ClosesExactly : Spans → List ℕ → Spans → ℕ → Type 0
-ClosesExactly old closed new id = IsTrue (stands_in id closed) ↔ (IsOpen old id × (find new id ≡ None))
+ClosesExactly old closed new id = IsTrue (has closed id) ↔ (IsOpen old id × (find new id ≡ None))
 
 -- which are those that are not live without the holder
 abbrev pub ClosesDead : Spans → List ℕ → ℕ → Type 0
-ClosesDead left closed id = IsTrue (stands_in id closed) ↔ (is_live left id ≡ false)
+ClosesDead left closed id = IsTrue (has closed id) ↔ (is_live left id ≡ false)
 
 -- where open spans stay open
 closes_none : (old new : Spans) (closed : List ℕ) (id : ℕ) → closed ≡ [] → (IsOpen old id → IsOpen new id) → ClosesExactly old closed new id
@@ -39,7 +40,7 @@ live_all old left closed id none same live =
 module _ (rules : List Filter) (ids closed : List ℕ) (old : World) (request : Request) (answer : Answer) (new : World) (change : Changes rules ids old request answer new) (w : IsSettled rules ids closed old.spans) where
   still_made : (m : Makes rules ids old request answer new) (id : ℕ) → IsOpen old.spans id → IsOpen (with_entry old.spans m.id m.node) id
   still_made m id o =
-      let apart : id ≢ m.id = λ e. false≢true (sym m.fresh ∙ ap (λ k. stands_in k ids) (sym e) ∙ w.open_issued id o) in
+      let apart : id ≢ m.id = λ e. false≢true (sym m.fresh ∙ ap (λ k. has ids k) (sym e) ∙ w.open_issued id o) in
       subst IsSome (sym (find-with_other old.spans m.id id m.node apart)) o
 
   pub closes_exactly : IsWorld old → (id : ℕ) → ClosesExactly old.spans (closed_by answer) new.spans id
@@ -64,7 +65,7 @@ module _ (rules : List Filter) (ids closed : List ℕ) (old : World) (request : 
       ]
 
   -- each other span stays as it is without the holder
-  pub closes_no_other : (id : ℕ) → gives_back request ≡ true → (stands_in id (closed_by answer) ≡ true → ⊥) → find new.spans id ≡ find (spans_before_closing old request) id
+  pub closes_no_other : (id : ℕ) → gives_back request ≡ true → (has (closed_by answer) id ≡ true → ⊥) → find new.spans id ≡ find (spans_before_closing old request) id
   closes_no_other id gives unlisted =
       elim (effect rules ids old request answer new change) [
         | stays same quiet ↦ rw (same, quiet.left) refl

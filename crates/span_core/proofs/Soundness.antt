@@ -6,13 +6,13 @@ use Rattle.std.proofs.lemmas.List.Folds.{list_any-append}
 use Rattle.std.proofs.lemmas.List.Sums.{fold-append}
 use Rattle.span_id.specs.declared.limits.Limits.{Limits}
 use Rattle.span_id.specs.Id.{slot_of, generation_of, IsId}
+use Rattle.span_id.specs.Ids.{has}
 use Rattle.span_slots.specs.Table.{issue, IsIssued}
 use Rattle.span_layers.specs.Note.{PlainNote}
 use Rattle.span_layers.specs.Filter.{Filter}
 use Rattle.span_forest.specs.Node.{Node}
 use Rattle.span_forest.specs.Spans.{Spans}
 use Rattle.span_forest.specs.Forest.{ForestView, table_of}
-use Rattle.span_forest.specs.Live.{stands_in}
 use Rattle.span_forest.specs.Add.{with_span}
 use Rattle.span_forest.specs.Release.{freed_after}
 use Rattle.span_forest.proofs.Slotted.{issue_more}
@@ -70,9 +70,9 @@ put_on old mid new batch same sent = sent ∙ ap (λ history. history ++ batch �
 -- history, each id that was given stays given, that of the answer is given too, and no other
 pub record FollowsOn (limits : Limits) (history : List PlainBatch) (old : ForestView) (answer : Answer) (new : ForestView) : Type 0 where
   pub slots : new ≡ forest_with limits new.spans (with_answer limits.last_generation (slots_after limits.last_generation history) answer)
-  pub gives : (id : ℕ) → stands_in id (id_issued answer) ≡ true → IsIssued (table_of new) id
+  pub gives : (id : ℕ) → has (id_issued answer) id ≡ true → IsIssued (table_of new) id
   pub keeps : (id : ℕ) → IsIssued (table_of old) id → IsIssued (table_of new) id
-  pub no_other : (id : ℕ) → IsId id → IsIssued (table_of new) id → IsIssued (table_of old) id ⊎ (stands_in id (id_issued answer) ≡ true)
+  pub no_other : (id : ℕ) → IsId id → IsIssued (table_of new) id → IsIssued (table_of old) id ⊎ (has (id_issued answer) id ≡ true)
 
 -- after a call that was accepted
 sound_more : (limits : Limits) (rules : List Filter) (forest new_forest : ForestView) (stacks new_stacks : List (List ℕ)) (calls : ℕ) (old new : List PlainBatch) (batch : PlainBatch)
@@ -82,20 +82,20 @@ sound_more : (limits : Limits) (rules : List Filter) (forest new_forest : Forest
     → IsSound limits new_forest new_stacks rules (calls + 1) new
 sound_more limits rules forest new_forest stacks new_stacks calls old new batch sound call follows =
     let legal : IsLegal rules limits.workers new (record { spans = new_forest.spans; stacks = new_stacks }) = more batch sound.legal call.step call.sent in
-    let stands : (id : ℕ) → stands_in id (issued new) ≡ (stands_in id (issued old) || stands_in id (id_issued batch.answer)) =
-    λ id. ap (λ history. stands_in id (issued history)) call.sent ∙ ap (stands_in id) (issued_more old batch) ∙ list_any-append (λ x. x == id) (issued old) (id_issued batch.answer) in
+    let stands : (id : ℕ) → has (issued new) id ≡ (has (issued old) id || has (id_issued batch.answer) id) =
+    λ id. ap (λ history. has (issued history) id) call.sent ∙ ap (λ ids. has ids id) (issued_more old batch) ∙ list_any-append (λ x. x == id) (issued old) (id_issued batch.answer) in
     record {
       calls_are = rw call.sent (omega (arith, sound.calls_are, length-append old (batch ∷ [])));
       forest_is = follows.slots ∙ ap (λ used. forest_with limits new_forest.spans used) (sym (ap (slots_after limits.last_generation) call.sent ∙ slots_more limits.last_generation old batch));
       counted = λ id there.
-          either (stands_in id (issued old)) (stands_in id (id_issued batch.answer)) (IsIssued (table_of new_forest) id) (sym (stands id) ∙ there)
+          either (has (issued old) id) (has (id_issued batch.answer) id) (IsIssued (table_of new_forest) id) (sym (stands id) ∙ there)
           (λ before. follows.keeps id (sound.counted id before))
           (follows.gives id);
       given = λ id fits low.
           stands id
           ∙ elim (follows.no_other id fits low) [
-            | inl before ↦ or_left (stands_in id (issued old)) (stands_in id (id_issued batch.answer)) (sound.given id fits before)
-            | inr now ↦ or_right (stands_in id (issued old)) (stands_in id (id_issued batch.answer)) now
+            | inl before ↦ or_left (has (issued old) id) (has (id_issued batch.answer) id) (sound.given id fits before)
+            | inr now ↦ or_right (has (issued old) id) (has (id_issued batch.answer) id) now
           ];
       stacks_are = stacks_are rules limits.workers new _ legal;
       world = legal_world rules limits.workers new _ legal;
@@ -150,6 +150,6 @@ sound_made limits rules forest new_forest stacks calls old new request notes id 
       keeps = λ x before. rw given_is (issue_more forest.given (slot_of id) (slot_of x) (generation_of x) before);
       no_other = λ x fits low. elim ((ids x fits).0 low) [
         | inl before ↦ inl before
-        | inr same ↦ inr (subst (λ (j : ℕ). stands_in x (j ∷ []) ≡ true) (sym same) (stands_itself x))
+        | inr same ↦ inr (subst (λ (j : ℕ). has (j ∷ []) x ≡ true) (sym same) (stands_itself x))
       ];
     })

@@ -3,6 +3,7 @@ use Rattle.std.proofs.Common.{◌≡◌, ℕ, ◌<◌, ◌≤◌, Bool, true, fa
 use Rattle.std.specs.Prelude.{is_some, unwrap_or}
 use Rattle.std.proofs.lemmas.List.{length-replicate}
 use Rattle.span_id.specs.declared.limits.Limits.{Limits}
+use Rattle.span_id.specs.Ids.{has}
 use Rattle.span_layers.specs.Note.{PlainNote}
 use Rattle.span_layers.specs.Filter.{admission_set}
 use Rattle.span_forest.specs.declared.span.Holder.{Holder}
@@ -16,7 +17,7 @@ use Rattle.span_forest.specs.Release.{without_holder, spans_left, closing_list}
 use Rattle.span_forest.proofs.Nodes.{IsOpen-changed}
 use Rattle.span_forest.proofs.Spared.{kept_passes, passing_kept, listed_open}
 use Rattle.span_forest.proofs.Upheld.{IsUpheld, upheld_empty, upheld_with, upheld_changed, upheld_released}
-use Rattle.span_stack.specs.Stack.{has, without_last}
+use Rattle.span_stack.specs.Stack.{without_last}
 use Rattle.span_core.specs.World.{World, IsWorld, empty_world, stack_of}
 use Rattle.span_outlet.specs.Request.{Request, new_span, clone_span, enter, exit, try_close, record_fields, event, Answer, worker_of}
 use Rattle.span_core.specs.Step.{is_open_parent, stays_inside, answer_to, world_after}

@@ -1,9 +1,9 @@
 -- What the parts of a step are, call by call.
 use Rattle.std.proofs.Common.{◌≡◌, ℕ, Bool, true, false, not, List, refl, sym, subst}
+use Rattle.span_id.specs.Ids.{has}
 use Rattle.span_layers.specs.Filter.{Filter}
 use Rattle.span_forest.specs.declared.span.Holder.TheVariants.{Handle}
 use Rattle.span_forest.specs.Release.{closing_list}
-use Rattle.span_stack.specs.Stack.{has}
 use Rattle.span_outlet.specs.Request.{Request, new_span, clone_span, enter, exit, try_close, record_fields, event, Answer, made, cloned, entered, exited, released, recorded, told}
 use Rattle.span_core.specs.World.{World, stack_of}
 use Rattle.span_core.specs.Step.{Changes, answer_to, closed_by_exit}

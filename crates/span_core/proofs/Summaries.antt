@@ -9,8 +9,9 @@ use Rattle.std.proofs.Math.Seq.{get_or-append_seam, take-add}
 use Rattle.std.proofs.lemmas.Option.{slice_get_within, slice_get-get_or, get_or_from_slice_get}
 use Rattle.span_id.specs.declared.bits.Bits.{Bits}
 use Rattle.span_id.specs.Bits.{has_bit}
+use Rattle.span_id.specs.Ids.{has}
 use Rattle.span_forest.specs.Spans.{Spans}
-use Rattle.span_stack.specs.Stack.{has, first_places, distinct_from_top, top, without_last}
+use Rattle.span_stack.specs.Stack.{first_places, distinct_from_top, top, without_last}
 use Rattle.span_stack.proofs.Stacks.{or_true, has-first_places, first_places-push, without_last-at}
 use Rattle.span_stack.proofs.Entries.{has-append}
 use Rattle.span_core.specs.declared.summary.Summary.{Summary}

@@ -5,12 +5,12 @@ use Rattle.std.specs.Option.{option_map_or}
 use Rattle.std.proofs.Math.Nat.{zero-div}
 use Rattle.std.proofs.lemmas.List.Folds.{list_any-append}
 use Rattle.std.proofs.lemmas.List.Concat.{flat_map-append}
+use Rattle.span_id.specs.Ids.{has}
 use Rattle.span_layers.specs.declared.note.Kind.TheVariants.{OnClose}
 use Rattle.span_layers.specs.Note.{PlainNote}
 use Rattle.span_layers.specs.Filter.{Filter, layer_wants}
 use Rattle.span_forest.specs.Node.{Node}
 use Rattle.span_forest.specs.Spans.{Spans, find}
-use Rattle.span_forest.specs.Live.{stands_in}
 use Rattle.span_core.specs.World.{World}
 use Rattle.span_outlet.specs.Request.{worker_of}
 use Rattle.span_outlet.specs.Batch.{PlainBatch}
@@ -48,18 +48,18 @@ notes_more history batch =
     append_nil (x ∷ xs) = ap (λ ys. x ∷ ys) (append_nil xs)
 
 -- over a legal history no layer is told twice that a span closed, nor of one that didn't
-pub told_at_most_once : (rules : List Filter) (workers : ℕ) (history : List PlainBatch) (world : World) → IsLegal rules workers history world → (layer id : ℕ) → tally (tells_close layer id) (notes_in history) ≤ one (stands_in id (closed_in history))
+pub told_at_most_once : (rules : List Filter) (workers : ℕ) (history : List PlainBatch) (world : World) → IsLegal rules workers history world → (layer id : ℕ) → tally (tells_close layer id) (notes_in history) ≤ one (has (closed_in history) id)
 told_at_most_once rules workers [] world none layer id = omega arith
 told_at_most_once rules workers history new (more {before} {old} batch legal step sent) layer id =
     let w = whole rules workers before old legal in
     let few = told_at_most_once rules workers before old legal layer id in
-    let now : tally (tells_close layer id) batch.notes ≡ one (stands_in id (closed_by batch.answer) && hears_close rules old.spans layer id) =
+    let now : tally (tells_close layer id) batch.notes ≡ one (has (closed_by batch.answer) id && hears_close rules old.spans layer id) =
     ap (tally (tells_close layer id)) step.notes_are
     ∙ call_counted rules (issued before) (worker_of batch.request) layer id old batch.request batch.answer new step.changes
     ∙ closes_counted rules (worker_of batch.request) layer id old.spans (closed_by batch.answer) (closes_once rules (issued before) (closed_in before) old batch.request batch.answer new step.changes w.settled) in
     let sum : tally (tells_close layer id) (notes_in history) ≡ tally (tells_close layer id) (notes_in before) + tally (tells_close layer id) batch.notes =
     ap (λ h. tally (tells_close layer id) (notes_in h)) sent ∙ ap (tally (tells_close layer id)) (notes_more before batch) ∙ append_count layer id (notes_in before) batch.notes in
-    let closed : stands_in id (closed_in history) ≡ (stands_in id (closed_in before) || stands_in id (closed_by batch.answer)) =
-    ap (λ h. stands_in id (closed_in h)) sent ∙ ap (stands_in id) (closed_more before batch) ∙ list_any-append (λ x. x == id) (closed_in before) (closed_by batch.answer) in
-    rw (sum, closed) (at_most _ _ (stands_in id (closed_in before)) (stands_in id (closed_by batch.answer)) (hears_close rules old.spans layer id) few now
+    let closed : has (closed_in history) id ≡ (has (closed_in before) id || has (closed_by batch.answer) id) =
+    ap (λ h. has (closed_in h) id) sent ∙ ap (λ ids. has ids id) (closed_more before batch) ∙ list_any-append (λ x. x == id) (closed_in before) (closed_by batch.answer) in
+    rw (sum, closed) (at_most _ _ (has (closed_in before) id) (has (closed_by batch.answer) id) (hears_close rules old.spans layer id) few now
     (λ gone. not_open_unheard rules old.spans layer id (w.settled.closed_gone id gone)))

@@ -5,12 +5,12 @@ use Rattle.std.specs.Option.{option_map}
 use Rattle.std.proofs.lemmas.Bool.{cases_lt, lt-ltb, le-ltb, true≢false}
 use Rattle.std.proofs.lemmas.Bool.Decides.{eqb_tells}
 use Rattle.span_id.specs.Id.{id_of, slot_of, generation_of}
+use Rattle.span_id.specs.Ids.{has}
 use Rattle.span_slots.specs.Table.{issue, next_slot_of}
 use Rattle.span_slots.proofs.Ids.{slot_of_id, generation_of_id}
 use Rattle.span_slots.proofs.Issued.{AreBelow, AreBelow-more, AreBelow-drop, used_since, get_or-issue_same, length-issue}
 use Rattle.span_forest.specs.Node.{Node}
 use Rattle.span_forest.specs.Spans.{Spans, find, IsOpen, with_entry}
-use Rattle.span_forest.specs.Live.{stands_in}
 use Rattle.span_forest.specs.Release.{freed_after}
 use Rattle.span_forest.proofs.Adds.{open_back}
 use Rattle.span_forest.proofs.Slotted.{issue_more}
@@ -38,7 +38,7 @@ agrees_fewer slots spans new used back agrees = record {
 }
 
 -- the ids that a list has
-all_below : (last : ℕ) (given freed closed : List ℕ) → AreBelow (length given) freed → ((id : ℕ) → stands_in id closed ≡ true → slot_of id < length given) → AreBelow (length given) (freed_after last given freed closed)
+all_below : (last : ℕ) (given freed closed : List ℕ) → AreBelow (length given) freed → ((id : ℕ) → has closed id ≡ true → slot_of id < length given) → AreBelow (length given) (freed_after last given freed closed)
 all_below last given freed [] below used = below
 all_below last given freed (id ∷ ids) below used =
     all_below last given (cond (leb (slice_index given (slot_of id)) last) (slot_of id ∷ freed) freed) ids (by_case (leb (slice_index given (slot_of id)) last)) (λ j there. used j (later j there))
@@ -46,15 +46,15 @@ all_below last given freed (id ∷ ids) below used =
     by_case : (b : Bool) → AreBelow (length given) (cond b (slot_of id ∷ freed) freed)
     by_case true = (used id (first id ids), below)
       where
-        first : (id : ℕ) (ids : List ℕ) → stands_in id (id ∷ ids) ≡ true
+        first : (id : ℕ) (ids : List ℕ) → has (id ∷ ids) id ≡ true
         first id ids = elim (eqb_tells id id) [ inl t ↦ rw t.0 refl | inr t ↦ absurd (t.1 refl) ]
     by_case false = below
 
-    later : (j : ℕ) → stands_in j ids ≡ true → stands_in j (id ∷ ids) ≡ true
+    later : (j : ℕ) → has ids j ≡ true → has (id ∷ ids) j ≡ true
     later j there = elim (eqb_tells id j) [ inl t ↦ rw t.0 refl | inr t ↦ rw t.0 there ]
 
 -- after open spans closed
-pub agrees_closed : (slots last : ℕ) (spans new : Spans) (used : SlotsUsed) (closed : List ℕ) → ((id : ℕ) → IsOpen new id → IsOpen spans id) → ((id : ℕ) → stands_in id closed ≡ true → IsOpen spans id)
+pub agrees_closed : (slots last : ℕ) (spans new : Spans) (used : SlotsUsed) (closed : List ℕ) → ((id : ℕ) → IsOpen new id → IsOpen spans id) → ((id : ℕ) → has closed id ≡ true → IsOpen spans id)
     → Agrees slots spans used → Agrees slots new (with_closed last used closed)
 agrees_closed slots last spans new used closed back were_open agrees = record {
   in_layout = agrees.in_layout;

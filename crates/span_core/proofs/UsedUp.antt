@@ -5,10 +5,10 @@ use Rattle.std.proofs.lemmas.Bool.{cases_lt, lt-ltb, le-ltb, false≢true}
 use Rattle.span_id.specs.declared.limits.Limits.{Limits}
 use Rattle.span_id.specs.Limits.{AreInRange}
 use Rattle.span_id.specs.Id.{id_of, slot_of, generation_of, IsId}
+use Rattle.span_id.specs.Ids.{has}
 use Rattle.span_slots.specs.Table.{IsFull, is_retired}
 use Rattle.span_layers.specs.Filter.{Filter}
 use Rattle.span_forest.specs.Forest.{ForestView, table_of, next_span_id}
-use Rattle.span_forest.specs.Live.{stands_in}
 use Rattle.span_forest.proofs.Walks.{same_test}
 use Rattle.span_outlet.specs.Batch.{PlainBatch}
 use Rattle.span_core.specs.History.{issued}
@@ -28,11 +28,11 @@ module _ (limits : Limits) (rules : List Filter) (forest : ForestView) (stacks :
   in_layout : (slot : ℕ) → slot < limits.slots → IsId (id_of slot limits.last_generation)
   in_layout slot low = omega (arith, low, range.slots_high, range.last_generation)
 
-  retired_is : (slot : ℕ) → slot < limits.slots → is_retired (table_of forest) slot ≡ stands_in (id_of slot limits.last_generation) (issued sent)
+  retired_is : (slot : ℕ) → slot < limits.slots → is_retired (table_of forest) slot ≡ has (issued sent) (id_of slot limits.last_generation)
   retired_is slot low =
       let id = id_of slot limits.last_generation in
       ap (λ last. nat_lt (generation_of (id_of slot last)) (slice_index forest.given (slot_of (id_of slot last)))) last_is
-      ∙ same_test (nat_lt (generation_of id) (slice_index forest.given (slot_of id))) (stands_in id (issued sent))
+      ∙ same_test (nat_lt (generation_of id) (slice_index forest.given (slot_of id))) (has (issued sent) id)
       (λ t. sound.given id (in_layout slot low) (below _ _ t))
       (λ t. lt-ltb _ _ (sound.counted id t))
 

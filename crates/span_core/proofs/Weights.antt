@@ -5,6 +5,7 @@ use Rattle.std.specs.Prelude.{sum_by, ◌⊎◌, unwrap_or}
 use Rattle.std.proofs.lemmas.Bool.{cases_Bool, false≢true}
 use Rattle.std.proofs.lemmas.Bool.Decides.{eqb_tells}
 use Rattle.std.proofs.lemmas.List.Sums.{sum_by-set}
+use Rattle.span_id.specs.Ids.{has}
 use Rattle.span_layers.specs.Note.{PlainNote}
 use Rattle.span_layers.specs.Filter.{admission_set}
 use Rattle.span_forest.specs.declared.span.Holder.TheVariants.{Handle, Entry}
@@ -16,7 +17,7 @@ use Rattle.span_forest.specs.Keep.{with_holder}
 use Rattle.span_forest.specs.Release.{spans_left}
 use Rattle.span_forest.proofs.Totals.{total-with}
 use Rattle.span_slots.proofs.Entries.{find-with_other}
-use Rattle.span_stack.specs.Stack.{has, without_last}
+use Rattle.span_stack.specs.Stack.{without_last}
 use Rattle.span_core.specs.World.{World, stack_of}
 use Rattle.span_outlet.specs.Request.{Request, new_span, clone_span, enter, exit, try_close, record_fields, event, made, worker_of}
 use Rattle.span_core.specs.Step.{stays_inside}

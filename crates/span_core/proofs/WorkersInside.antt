@@ -3,7 +3,7 @@ use Rattle.std.proofs.Common.{◌≡◌, ℕ, zero, suc, ◌+◌, ◌++◌, Bool
 use Rattle.std.proofs.Common.{Vec, Global, Result, Ok, Err}
 use Rattle.std.specs.Prelude.{slice_index_or, IfOk}
 use Rattle.span_id.specs.declared.fault.Fault.{Fault}
-use Rattle.span_stack.specs.Stack.{has}
+use Rattle.span_id.specs.Ids.{has}
 use Rattle.std.specs.List.{range_with_len}
 use Rattle.std.proofs.lemmas.Bool.{cases_Bool}
 use Rattle.std.proofs.lemmas.List.{append-nil}

@@ -5,16 +5,17 @@ use Rattle.std.proofs.lemmas.Bool.{cases_Bool, eq-eqb, false≢true}
 use Rattle.std.proofs.lemmas.Bool.Decides.{nat_tests}
 use Rattle.std.proofs.lemmas.List.Folds.{sum_by-replicate, list_any-append}
 use Rattle.std.proofs.lemmas.List.Sums.{sum_by-set}
+use Rattle.span_id.specs.Ids.{has}
 use Rattle.span_forest.specs.declared.span.Holder.TheVariants.{Handle, Entry}
 use Rattle.span_forest.specs.Node.{Node}
 use Rattle.span_forest.specs.Spans.{Spans, find, with_change}
 use Rattle.span_forest.specs.Walk.{walk}
 use Rattle.span_forest.specs.Count.{is_held}
-use Rattle.span_forest.specs.Live.{stands_in, is_live, live_part}
+use Rattle.span_forest.specs.Live.{is_live, live_part}
 use Rattle.span_forest.specs.Holders.{held_in, held_by, with_more, with_less}
 use Rattle.span_forest.specs.Keep.{with_holder}
 use Rattle.span_forest.specs.Release.{without_holder, spans_left}
-use Rattle.span_stack.specs.Stack.{has, without_last}
+use Rattle.span_stack.specs.Stack.{without_last}
 use Rattle.span_core.specs.World.{IsWorld, workers_inside}
 
 other_key : (a id j : ℕ) → (a == j) ≡ true → (id == j) ≡ false → (a == id) ≡ false
@@ -133,13 +134,13 @@ any_found q (e ∷ es) j node is passes =
     or_true true = refl
     or_true false = refl
 
-walk_has_first : (spans : Spans) (j : ℕ) (node : Node) → find spans j ≡ Some node → stands_in j (walk spans j) ≡ true
+walk_has_first : (spans : Spans) (j : ℕ) (node : Node) → find spans j ≡ Some node → has (walk spans j) j ≡ true
 walk_has_first [] j node is = cc
 walk_has_first (e ∷ es) j node is = rw (eq-eqb j j refl) refl
 
 pub live_of_held : (spans : Spans) (j : ℕ) (node : Node) → find spans j ≡ Some node → is_held node ≡ true → is_live spans j ≡ true
 live_of_held spans j node is held =
-    any_found (λ e. is_held e.1 && stands_in j (walk spans e.0)) spans j node is (rw (held, walk_has_first spans j node is) refl)
+    any_found (λ e. is_held e.1 && has (walk spans e.0) j) spans j node is (rw (held, walk_has_first spans j node is) refl)
 
 held_with_entry : (node : Node) → 0 < node.entries → is_held node ≡ true
 held_with_entry node h = grind (arith, nat_tests)

@@ -7,12 +7,12 @@ use Rattle.span_id.specs.declared.fault.Fault.TheVariants.{Unknown, CountFull, F
 use Rattle.span_id.specs.declared.limits.Limits.{Limits}
 use Rattle.span_id.specs.Name.{is_name}
 use Rattle.span_id.specs.Meta.{KeyValue}
+use Rattle.span_id.specs.Ids.{has}
 use Rattle.span_layers.specs.Note.{PlainNote}
 use Rattle.span_layers.specs.Filter.{Filter}
 use Rattle.span_layers.specs.declared.form.Form.{Form}
 use Rattle.span_forest.specs.Spans.{Spans}
 use Rattle.span_forest.specs.Count.{reference_count}
-use Rattle.span_stack.specs.Stack.{has}
 use Rattle.span_core.specs.World.{World, stack_of}
 use Rattle.span_outlet.specs.Request.{Request, new_span, clone_span, enter, record_fields, event, Answer}
 use Rattle.span_outlet.specs.Batch.{PlainBatch}

@@ -1,8 +1,8 @@
 -- What a call that gives a holder back does, said of the core before it and the core after it.
 use Rattle.std.specs.Prelude.{◌≡◌, ◌≢◌, ◌↔◌, ℕ, ◌&&◌, if◌then◌else◌, [], ◌∷◌, ◌++◌, Some, None, IsTrue, AllPairs, count_by}
+use Rattle.span_id.specs.Ids.{has}
 use Rattle.span_forest.specs.Spans.{Spans, find, IsOpen, parent_of}
 use Rattle.span_forest.specs.Count.{holders_in}
-use Rattle.span_forest.specs.Live.{stands_in}
 use Rattle.span_outlet.specs.Request.{Request}
 use Rattle.span_outlet.specs.Batch.{PlainBatch}
 use Rattle.span_core.specs.Core.{CoreView}
@@ -28,10 +28,10 @@ pub record ClosesWhatNothingHolds (old : CoreView) (request : Request) (new : Co
   pub others : (id : ℕ) → IsOpen new.world.spans id →
       find new.world.spans id ≡ find (spans_before_closing old.world request) id
   -- the answer lists the spans that are gone: each once, and none after its parent
-  pub listed : (id : ℕ) → (IsTrue (stands_in id (closed_by batch.answer))
+  pub listed : (id : ℕ) → (IsTrue (has (closed_by batch.answer) id)
       ↔ (IsOpen old.world.spans id × (find new.world.spans id ≡ None)))
   pub child_first : AllPairs (λ first later. (first ≢ later) × (parent_of old.world.spans later ≢ Some first))
       (closed_by batch.answer)
   -- each of them is announced once to every layer that admits it and wants closes, and to no other layer
   pub announced : (layer id : ℕ) → count_by (tells_close layer id) batch.notes
-      ≡ (if stands_in id (closed_by batch.answer) && hears_close old.rules old.world.spans layer id then 1 else 0)
+      ≡ (if has (closed_by batch.answer) id && hears_close old.rules old.world.spans layer id then 1 else 0)

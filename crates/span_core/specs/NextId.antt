@@ -3,9 +3,9 @@ use Rattle.std.specs.Prelude.{ℕ, Bool, ◌||◌, ◌==◌, List, [], fold, len
 use Rattle.std.specs.List.{list_any}
 use Rattle.std.specs.Option.{option_map}
 use Rattle.span_id.specs.Id.{id_of, slot_of}
+use Rattle.span_id.specs.Ids.{has}
 use Rattle.span_slots.specs.Table.{issue, next_slot_of}
 use Rattle.span_forest.specs.Spans.{Spans}
-use Rattle.span_forest.specs.Live.{stands_in}
 use Rattle.span_forest.specs.Release.{freed_after}
 use Rattle.span_outlet.specs.Request.{Answer, made, cloned, entered, exited, released, recorded, told}
 use Rattle.span_outlet.specs.Batch.{PlainBatch}
@@ -54,4 +54,4 @@ has_open_span spans slot = list_any (λ e. slot_of e.0 == slot) spans
 -- the slot can give no id: an open span has it, or the history issued its id of the last generation
 abbrev pub is_used_up : ℕ → Spans → List PlainBatch → ℕ → Bool
 is_used_up last_generation spans history slot =
-    has_open_span spans slot || stands_in (id_of slot last_generation) (issued history)
+    has_open_span spans slot || has (issued history) (id_of slot last_generation)

@@ -2,16 +2,16 @@
 use Rattle.std.specs.Prelude.{◌≡◌, ℕ, ◌<◌, ◌==◌, Bool, true, false, ◌||◌, not, nat_lt, cond, List, [], ◌∷◌, ◌++◌, length, Option, Some, None, is_some}
 use Rattle.span_id.specs.Id.{IsId}
 use Rattle.span_id.specs.Meta.{KeyValue, PlainMeta}
+use Rattle.span_id.specs.Ids.{has}
 use Rattle.span_layers.specs.Note.{PlainNote}
 use Rattle.span_layers.specs.Filter.{Filter, admission_set}
 use Rattle.span_forest.specs.declared.span.Holder.TheVariants.{Handle, Entry}
 use Rattle.span_forest.specs.Node.{new_node, with_fields}
 use Rattle.span_forest.specs.Spans.{Spans, find, with_entry, with_change}
-use Rattle.span_forest.specs.Live.{stands_in}
 use Rattle.span_forest.specs.Holders.{held_in}
 use Rattle.span_forest.specs.Keep.{with_holder}
 use Rattle.span_forest.specs.Release.{spans_left, closing_list}
-use Rattle.span_stack.specs.Stack.{has, without_last}
+use Rattle.span_stack.specs.Stack.{without_last}
 use Rattle.span_core.specs.World.{World, stack_of, with_stack}
 use Rattle.span_core.specs.Parent.{parent_named}
 use Rattle.span_outlet.specs.Request.{Request, new_span, clone_span, enter, exit, try_close, record_fields, event, Answer, made, cloned, entered, exited, released, recorded, told, worker_of}
@@ -106,7 +106,7 @@ is_open_parent spans (Some id) = is_open spans id
 abbrev pub has_handle : Spans → ℕ → Bool
 has_handle spans id = nat_lt 0 (held_in Handle (find spans id))
 
--- a new span is wanted
+-- a call that makes a span is wanted where the span is; any other call always
 abbrev pub is_wanted_call : List Filter → Request → Bool
 is_wanted_call rules (new_span worker meta fields parent) = is_wanted_meta rules meta
 is_wanted_call rules _ = true
@@ -130,15 +130,15 @@ is_inside world _ = true
 
 -- the id is in the layout, and was never issued
 abbrev pub IsNewId : List ℕ → ℕ → Type 0
-IsNewId issued id = IsId id × (stands_in id issued ≡ false)
+IsNewId issued id = IsId id × (has issued id ≡ false)
 
 -- the id that an answer issues, if it does, is new
 abbrev pub IssuesNewId : List ℕ → Answer → Type 0
 IssuesNewId issued (made id) = IsNewId issued id
 IssuesNewId issued _ = Unit {0}
 
--- What a call with this answer does to the world. What the call needs is there, and the answer and the world after it
--- are its own, so no other pairs of call and answer are given. A new span gets some id that is new.
+-- A call changes the world so: what it needs is there, this answer is the one that it gets, and the world after it is
+-- what it makes of the world before. A new span gets an id that was never issued.
 pub record Changes
     (rules : List Filter) (issued : List ℕ) (old : World) (request : Request) (answer : Answer) (new : World)
     : Type 0 where

@@ -1,12 +1,13 @@
 -- The world: the open spans with their holders, and the stacks of the workers.
 use Rattle.std.specs.Prelude.{◌≡◌, ℕ, ◌+◌, ◌<◌, List, [], filter, MatchOption, replicate, length, sum_by, count_by, slice_index_or, slice_set}
 use Rattle.std.specs.List.{range_with_len}
+use Rattle.span_id.specs.Ids.{has}
 use Rattle.span_forest.specs.declared.span.Span.{Span}
 use Rattle.span_forest.specs.declared.span.Holder.TheVariants.{Entry}
 use Rattle.span_forest.specs.Spans.{Spans, find, IsOpen}
 use Rattle.span_forest.specs.Count.{children}
 use Rattle.span_forest.specs.Holders.{held_in}
-use Rattle.span_stack.specs.Stack.{has, first_places}
+use Rattle.span_stack.specs.Stack.{first_places}
 
 -- the open spans, each with its handles and its entries, and for each worker, by its number, the ids
 -- of the spans that it has entered, the topmost last

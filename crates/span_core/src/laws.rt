@@ -2,6 +2,7 @@
 ghost use Rattle.std.specs.Prelude.{◌≡◌, ◌≢◌, ◌≤◌, ◌<◌, ◌+◌, ◌^◌, ℕ, nat_lt, true, false, ◌&&◌, ◌↔◌, if◌then◌else◌, [], List, length, Option, Some, None, IsTrue, All, AllPairs, Contains, count_by};
 ghost use Rattle.span_id.specs.Id.{slot_of, IsId};
 ghost use Rattle.span_id.specs.Meta.{KeyValue, PlainMeta};
+ghost use Rattle.span_id.specs.Ids.{has};
 ghost use Rattle.span_layers.specs.Filter.{Filter, admission_set};
 ghost use Rattle.span_forest.specs.Node.{Node, new_node};
 ghost use Rattle.span_forest.specs.Spans.{find, IsOpen, parent_of};
@@ -11,7 +12,7 @@ ghost use Rattle.span_forest.specs.Holders.{held_in};
 ghost use Rattle.span_forest.specs.declared.span.Holder.{Holder};
 ghost use Rattle.span_forest.specs.declared.holding.Held.{Held};
 ghost use Rattle.span_forest.specs.Holding.{held_spans, what_holds, AreHeld, spans_after, IsGivenBack};
-ghost use Rattle.span_forest.specs.Live.{stands_in, is_live};
+ghost use Rattle.span_forest.specs.Live.{is_live};
 ghost use Rattle.span_forest.specs.Forest.{IsForest};
 ghost use Rattle.span_outlet.specs.Batch.{PlainBatch};
 ghost use Rattle.span_core.specs.World.{World, IsWorld, entries_in};
@@ -91,16 +92,16 @@ pub fn empty_where_nothing_is_held<O: Outlet, A>(core: &Core<O, A>)
 pub fn release_closes_what_nothing_holds<O: Outlet, A>(core: &Core<O, A>)
     ensures exact { (request : Request) (answer : Answer) (new : CoreView) (id : ℕ) →
         IsAccepted core.now request answer new →
-        (IsTrue (stands_in id (closed_by answer))
+        (IsTrue (has (closed_by answer) id)
         ↔ (IsOpen core.now.world.spans id × (find new.world.spans id ≡ None))) }
     ensures not_live { (request : Request) (answer : Answer) (new : CoreView) (id : ℕ) →
         IsAccepted core.now request answer new →
         IsOpen core.now.world.spans id →
-        (IsTrue (stands_in id (closed_by answer))
+        (IsTrue (has (closed_by answer) id)
         ↔ (is_live (spans_before_closing core.now.world request) id ≡ false)) }
     ensures others { (request : Request) (answer : Answer) (new : CoreView) (id : ℕ) →
         IsAccepted core.now request answer new →
-        IsTrue (gives_back request) → (IsTrue (stands_in id (closed_by answer)) → ⊥) →
+        IsTrue (gives_back request) → (IsTrue (has (closed_by answer) id) → ⊥) →
         find new.world.spans id ≡ find (spans_before_closing core.now.world request) id }
     ensures once { (request : Request) (answer : Answer) (new : CoreView) →
         IsAccepted core.now request answer new →
@@ -119,7 +120,7 @@ pub fn closes_are_announced_once<O: Outlet, A>(core: &Core<O, A>)
     ensures { (request : Request) (answer : Answer) (new : CoreView) (layer id : ℕ) →
         (accepted : IsAccepted core.now request answer new) →
         count_by (tells_close layer id) accepted.notes
-        ≡ (if stands_in id (closed_by answer) && hears_close core.now.rules core.now.world.spans layer id
+        ≡ (if has (closed_by answer) id && hears_close core.now.rules core.now.world.spans layer id
         then 1 else 0) }
 {
     what_was_sent_is_legal(core);
@@ -148,7 +149,7 @@ pub fn releases_leave_no_choice<O: Outlet, A>(core: &Core<O, A>)
 /// In the whole history no layer is told twice that a span closed, and none is told so of a span that didn't.
 pub fn no_close_is_told_twice<O: Outlet, A>(core: &Core<O, A>)
     ensures { (layer id : ℕ) → count_by (tells_close layer id) (notes_in core.now.sent)
-        ≤ (if stands_in id (closed_in core.now.sent) then 1 else 0) }
+        ≤ (if has (closed_in core.now.sent) id then 1 else 0) }
 {
     what_was_sent_is_legal(core);
 }
@@ -157,9 +158,9 @@ pub fn no_close_is_told_twice<O: Outlet, A>(core: &Core<O, A>)
 /// closed is never open again.
 pub fn open_spans_were_made_and_not_closed<O: Outlet, A>(core: &Core<O, A>)
     ensures exact { (id : ℕ) → (IsOpen core.now.world.spans id
-        ↔ (IsTrue (stands_in id (issued core.now.sent)) × (IsTrue (stands_in id (closed_in core.now.sent)) → ⊥))) }
+        ↔ (IsTrue (has (issued core.now.sent) id) × (IsTrue (has (closed_in core.now.sent) id) → ⊥))) }
     ensures once { AllPairs (λ first later. first ≢ later) (issued core.now.sent) }
-    ensures closed { (id : ℕ) → IsTrue (stands_in id (closed_in core.now.sent)) →
+    ensures closed { (id : ℕ) → IsTrue (has (closed_in core.now.sent) id) →
         find core.now.world.spans id ≡ None }
 {
     what_was_sent_is_legal(core);
@@ -255,7 +256,7 @@ pub fn a_span_is_open_as_long_as_something_keeps_it<O: Outlet, A>(core: &Core<O,
         IsOpen (spans_after core.now.world.spans releases) id }
     ensures next { (request : Request) (answer : Answer) (new : CoreView) (id : ℕ) →
         IsAccepted core.now request answer new → IsOpen core.now.world.spans id →
-        (IsTrue (stands_in id (closed_by answer)) ↔ (what_holds new.world.spans id ≡ [])) }
+        (IsTrue (has (closed_by answer) id) ↔ (what_holds new.world.spans id ≡ [])) }
 {
     what_was_sent_is_legal(core);
     entries_are_the_workers_inside(core);

@@ -1,15 +1,15 @@
 //! The notes that the layers are told of what happens.
-ghost use Rattle.std.specs.Prelude.{◌≡◌, ◌<◌, ◌++◌, ◌∷◌, [], if◌then◌else◌, map, flat_map, length, IfOk, OnOk, IfErr, IfSome, Some};
+ghost use Rattle.std.specs.Prelude.{◌≡◌, ◌<◌, ◌++◌, ◌∷◌, [], map, IfOk, OnOk, IfErr, Some};
 ghost use Rattle.std.specs.Arc.{arc_str_bytes};
-ghost use Rattle.span_layers.specs.declared.note.Kind.TheVariants.{OnExit};
+ghost use Rattle.span_layers.specs.declared.note.Kind.TheVariants.{OnRecord, OnExit};
 ghost use Rattle.span_layers.specs.Note.{plain_note, plain_event};
 ghost use Rattle.span_forest.specs.Node.{node_of};
-ghost use Rattle.span_forest.specs.Spans.{IsOpen, find};
+ghost use Rattle.span_forest.specs.Spans.{find};
 ghost use Rattle.span_forest.specs.Path.{path_text};
 ghost use Rattle.span_outlet.specs.Request.{record_fields, request_of};
-ghost use Rattle.span_core.specs.Happening.{at_span, close_of, bits_in, notes_of, notes_of_all, path_at};
+ghost use Rattle.span_core.specs.Happening.{at_span, close_of, notes_of, notes_of_all, path_at};
 ghost use Rattle.span_core.specs.inside.ClosingPaths.{IsChain};
-ghost use Rattle.span_core.specs.inside.Telling.{id_told, place_told, event_said, text_told, told_to, IsSummarised, IsAt, IsThere, IsReadable, notes_told, Knows};
+ghost use Rattle.span_core.specs.inside.Telling.{id_told, place_told, event_said, text_told, told_to, IsSummarised, IsThere, IsReadable, notes_told, Knows};
 ghost use Rattle.span_core.specs.inside.Remembering.{Remembers};
 
 pub(crate) mod closing;
@@ -22,28 +22,17 @@ use crate::recent::{Recent, empty_list};
 use closing::{closes_count, push_closes};
 use events::{Around, span_seen};
 use layers::{is_told_to_none, told_layers};
-use paths::{ToldPaths, new_text, seen_text};
+use paths::{SharedPaths, new_text, seen_text};
 use span_forest::{Forest, Span};
 use span_id::{Bits, Fault, Fields, Id, Level};
 use span_layers::{Kind, Note, Rules};
 use span_outlet::Call;
 use std::sync::ArcStr;
 
-/// What happened to a span: which worker caused it, its kind, the span, and the layers that admit the span; and the span as
-/// the call found it, where it has that in hand.
+/// A span as a call found it: which worker calls, the span's id, and the span. So nothing of it is looked up anew for
+/// what the layers are told of it; the change alone looks once more.
 #[derive(Clone, Copy)]
-pub(crate) struct Happening<'a> {
-    pub(crate) worker: u32,
-    pub(crate) kind: Kind,
-    pub(crate) id: Id,
-    pub(crate) bits: Bits,
-    pub(crate) seen: Option<&'a Span>,
-}
-
-/// A span as a call found it: which worker calls, the span's id, and the span. So nothing of it is looked up anew, neither
-/// for what the layers are told of it nor before it is changed.
-#[derive(Clone, Copy)]
-pub(crate) struct SeenSpan<'a> {
+pub(crate) struct FoundSpan<'a> {
     pub(crate) worker: u32,
     pub(crate) id: Id,
     pub(crate) span: &'a Span,
@@ -56,9 +45,9 @@ pub(crate) struct Announced {
     pub(crate) notes: Vec<Note>,
 }
 
-/// What the layers are told: which worker caused it, its kind, the layers that admit it, the fields, and its subject.
+/// What the layers may be told of: which worker caused it, its kind, the layers that admit it, the fields, and its subject.
 #[derive(Clone, Copy)]
-pub(crate) struct Telling<'a> {
+pub(crate) struct Happening<'a> {
     worker: u32,
     kind: Kind,
     bits: Bits,
@@ -66,13 +55,13 @@ pub(crate) struct Telling<'a> {
     subject: Subject<'a>,
 }
 
-/// What the layers are told of.
+/// What a happening is about: a span, a span to be made, or an event.
 #[derive(Clone, Copy)]
 pub(crate) enum Subject<'a> {
-    /// A span that is open, as the call found it, where it has that in hand.
+    /// A span that is open, as the call found it.
     Span {
         id: Id,
-        seen: Option<&'a Span>,
+        span: &'a Span,
     },
     /// A span that is to be made.
     NewSpan {
@@ -116,7 +105,7 @@ fn path_of(
     recent: &mut Recent,
     forest: &Forest,
     subject: &Subject<'_>,
-    paths: &mut ToldPaths,
+    paths: &mut SharedPaths,
     layer: u32,
     place: &Option<Id>,
 ) -> Result<ArcStr, Fault>
@@ -131,7 +120,7 @@ fn path_of(
 {
     match subject {
         Subject::NewSpan { name, .. } => new_text(recent, forest, paths, layer, place, name),
-        Subject::Span { seen, .. } => seen_text(recent, forest, paths, layer, place, *seen),
+        Subject::Span { span, .. } => seen_text(recent, forest, paths, layer, place, Some(*span)),
         Subject::Event { .. } => seen_text(recent, forest, paths, layer, place, None),
     }
 }
@@ -154,8 +143,8 @@ fn event_said(subject: &Subject<'_>) -> Result<Option<(Level, ArcStr)>, Fault>
 fn note(
     recent: &mut Recent,
     forest: &Forest,
-    what: &Telling<'_>,
-    paths: &mut ToldPaths,
+    what: &Happening<'_>,
+    paths: &mut SharedPaths,
     layer: u32,
 ) -> Result<Note, Fault>
     requires known { Knows (text_told what.now.subject) forest.now.spans paths.old }
@@ -186,10 +175,10 @@ fn note(
 fn push_told(
     recent: &mut Recent,
     notes: &mut Vec<Note>,
-    paths: &mut ToldPaths,
+    paths: &mut SharedPaths,
     rules: &Rules,
     forest: &Forest,
-    what: &Telling<'_>,
+    what: &Happening<'_>,
 ) -> Result<(), Fault>
     requires known { Knows (text_told what.now.subject) forest.now.spans paths.old }
     requires remembers { Remembers forest.now recent.old.paths }
@@ -216,7 +205,7 @@ fn told(
     recent: &mut Recent,
     rules: &Rules,
     forest: &Forest,
-    what: &Telling<'_>,
+    what: &Happening<'_>,
 ) -> Result<Vec<Note>, Fault>
     requires remembers { Remembers forest.now recent.old.paths }
     requires summarised { IsSummarised forest.now.spans what.now.subject }
@@ -238,7 +227,7 @@ fn told_to_some(
     recent: &mut Recent,
     rules: &Rules,
     forest: &Forest,
-    what: &Telling<'_>,
+    what: &Happening<'_>,
 ) -> Result<Vec<Note>, Fault>
     requires remembers { Remembers forest.now recent.old.paths }
     requires summarised { IsSummarised forest.now.spans what.now.subject }
@@ -250,37 +239,36 @@ fn told_to_some(
 {
     let layers = told_layers(rules, what.bits, what.kind);
     let mut notes = empty_list(recent.alloc, &mut recent.spare, layers.len());
-    let mut paths = ToldPaths::none(recent.alloc);
+    let mut paths = SharedPaths::none(recent.alloc);
     push_told(recent, &mut notes, &mut paths, rules, forest, what)?;
     Ok(notes)
 }
 
-// The notes of what happened to a span: one for each layer that admits the span and wants the kind.
+// The notes of what happens to a span: one for each layer that admits the span and wants the kind.
 #[inline(always)]
 pub(crate) fn span_notes(
     recent: &mut Recent,
     rules: &Rules,
     forest: &Forest,
-    what: &Happening<'_>,
+    found: &FoundSpan<'_>,
+    kind: Kind,
     fields: &Fields,
 ) -> Result<Vec<Note>, Fault>
-    requires open { IsOpen forest.now.spans what.now.id }
-    requires bits { what.now.bits.0 ≡ bits_in forest.now.spans what.now.id }
-    requires seen { IfSome what.now.seen (IsAt forest.now.spans (Some what.now.id)) }
+    requires found { find forest.now.spans found.now.id ≡ Some (node_of found.now.span.now) }
     requires remembers { Remembers forest.now recent.old.paths }
-    ensures notes { IfOk result (λ notes. map plain_note notes.items ≡ notes_of rules.now what.now.worker
-        (at_span forest.now.spans what.now.kind what.now.id fields.now)) }
+    ensures notes { IfOk result (λ notes. map plain_note notes.items ≡ notes_of rules.now found.now.worker
+        (at_span forest.now.spans kind found.now.id fields.now)) }
     ensures remembers { Remembers forest.now recent.new.paths }
     ensures memory { IfErr result (λ fault. fault ≡ Fault.Memory) }
 {
-    let what = Telling {
-        worker: what.worker,
-        kind: what.kind,
-        bits: what.bits,
+    let what = Happening {
+        worker: found.worker,
+        kind,
+        bits: found.span.bits,
         fields,
         subject: Subject::Span {
-            id: what.id,
-            seen: what.seen,
+            id: found.id,
+            span: found.span,
         },
     };
     told(recent, rules, forest, &what)
@@ -290,32 +278,30 @@ pub(crate) fn span_notes(
 pub(crate) fn push_notes(
     recent: &mut Recent,
     notes: &mut Vec<Note>,
-    paths: &mut ToldPaths,
+    paths: &mut SharedPaths,
     rules: &Rules,
     forest: &Forest,
-    what: &Happening<'_>,
+    found: &FoundSpan<'_>,
+    kind: Kind,
     fields: &Fields,
 ) -> Result<(), Fault>
-    requires open { IsOpen forest.now.spans what.now.id }
-    requires bits { what.now.bits.0 ≡ bits_in forest.now.spans what.now.id }
-    requires seen { IfSome what.now.seen (IsAt forest.now.spans (Some what.now.id)) }
+    requires found { find forest.now.spans found.now.id ≡ Some (node_of found.now.span.now) }
     requires known { Knows path_text forest.now.spans paths.old }
     requires remembers { Remembers forest.now recent.old.paths }
     ensures notes { OnOk result (map plain_note notes.new.items ≡ map plain_note notes.old.items
-        ++ notes_of rules.now what.now.worker
-        (at_span forest.now.spans what.now.kind what.now.id fields.now)) }
+        ++ notes_of rules.now found.now.worker (at_span forest.now.spans kind found.now.id fields.now)) }
     ensures known { OnOk result (Knows path_text forest.now.spans paths.new) }
     ensures remembers { Remembers forest.now recent.new.paths }
     ensures memory { IfErr result (λ fault. fault ≡ Fault.Memory) }
 {
-    let what = Telling {
-        worker: what.worker,
-        kind: what.kind,
-        bits: what.bits,
+    let what = Happening {
+        worker: found.worker,
+        kind,
+        bits: found.span.bits,
         fields,
         subject: Subject::Span {
-            id: what.id,
-            seen: what.seen,
+            id: found.id,
+            span: found.span,
         },
     };
     push_told(recent, notes, paths, rules, forest, &what)
@@ -326,26 +312,24 @@ pub(crate) fn record_told(
     recent: &mut Recent,
     rules: &Rules,
     forest: &Forest,
-    what: &Happening<'_>,
+    found: &FoundSpan<'_>,
     fields: &Fields,
 ) -> Result<Announced, Fault>
-    requires open { IsOpen forest.now.spans what.now.id }
-    requires bits { what.now.bits.0 ≡ bits_in forest.now.spans what.now.id }
-    requires seen { IfSome what.now.seen (IsAt forest.now.spans (Some what.now.id)) }
+    requires found { find forest.now.spans found.now.id ≡ Some (node_of found.now.span.now) }
     requires remembers { Remembers forest.now recent.old.paths }
-    ensures call { IfOk result (λ told. request_of told.call
-        ≡ record_fields what.now.worker what.now.id fields.now) }
-    ensures notes { IfOk result (λ told. map plain_note told.notes.items ≡ notes_of rules.now what.now.worker
-        (at_span forest.now.spans what.now.kind what.now.id fields.now)) }
+    ensures call { IfOk result (λ announced. request_of announced.call
+        ≡ record_fields found.now.worker found.now.id fields.now) }
+    ensures notes { IfOk result (λ announced. map plain_note announced.notes.items ≡ notes_of rules.now found.now.worker
+        (at_span forest.now.spans OnRecord found.now.id fields.now)) }
     ensures remembers { Remembers forest.now recent.new.paths }
     ensures memory { IfErr result (λ fault. fault ≡ Fault.Memory) }
 {
-    let notes = span_notes(recent, rules, forest, what, fields)?;
+    let notes = span_notes(recent, rules, forest, found, Kind::OnRecord, fields)?;
     let fields = fields.share()?;
     Ok(Announced {
         call: Call::RecordFields {
-            worker: what.worker,
-            id: what.id,
+            worker: found.worker,
+            id: found.id,
             fields,
         },
         notes,
@@ -357,7 +341,7 @@ pub(crate) fn exit_notes<'a>(
     recent: &mut Recent,
     rules: &Rules,
     forest: &'a Forest,
-    exit: &SeenSpan<'a>,
+    exit: &FoundSpan<'a>,
     closing: &[Id],
 ) -> Result<Vec<Note>, Fault>
     requires chain { IsChain forest.now.spans closing.now }
@@ -369,23 +353,19 @@ pub(crate) fn exit_notes<'a>(
     ensures remembers { Remembers forest.now recent.new.paths }
     ensures memory { IfErr result (λ fault. fault ≡ Fault.Memory) }
 {
-    let what = Happening {
-        worker: exit.worker,
-        kind: Kind::OnExit,
-        id: exit.id,
-        bits: exit.span.bits,
-        seen: Some(exit.span),
-    };
+    let kind = Kind::OnExit;
     let none = Fields::none();
     if closing.is_empty() {
-        return span_notes(recent, rules, forest, &what, &none);
+        return span_notes(recent, rules, forest, exit, kind, &none);
     }
-    let exits = told_layers(rules, what.bits, what.kind).len();
-    let closes = closes_count(rules, forest, closing, what.bits);
+    let exits = told_layers(rules, exit.span.bits, kind).len();
+    let closes = closes_count(rules, forest, closing, exit.span.bits);
     let most = exits.saturating_add(closes);
     let mut notes = empty_list(recent.alloc, &mut recent.spare, most);
-    let mut paths = ToldPaths::none(recent.alloc);
-    push_notes(recent, &mut notes, &mut paths, rules, forest, &what, &none)?;
+    let mut paths = SharedPaths::none(recent.alloc);
+    push_notes(
+        recent, &mut notes, &mut paths, rules, forest, exit, kind, &none,
+    )?;
     push_closes(
         recent, &mut notes, &mut paths, rules, forest, exit, closing, closes,
     )?;

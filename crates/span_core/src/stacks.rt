@@ -1,5 +1,6 @@
 ghost use Rattle.std.specs.Prelude.{◌≡◌, ◌<◌, ◌≤◌, ◌++◌, ◌∷◌, [], false, not, length, replicate, slice_index_or, slice_set, is_some, IfSome, IfOk, IfErr, OnOk, OnErr};
-ghost use Rattle.span_stack.specs.Stack.{has, without_last, ids_of_each};
+ghost use Rattle.span_id.specs.Ids.{has};
+ghost use Rattle.span_stack.specs.Stack.{without_last, ids_of_each};
 ghost use Rattle.span_core.specs.World.{workers_with};
 
 use span_id::{Fault, Id};

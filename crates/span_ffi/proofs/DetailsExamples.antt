@@ -11,7 +11,7 @@ use Rattle.span_border.specs.declared.status.Status.TheVariants.{Done, Refused, 
 use Rattle.span_ffi.specs.declared.data.SpanMeta.{SpanMeta}
 use Rattle.span_ffi.specs.declared.data.SpanField.{SpanField}
 use Rattle.span_ffi.specs.Data.{said_fields, behind_meta}
-use Rattle.span_ffi.specs.Details.{text_pairs, packed, are_short, is_tellable, ReadAsSaid, Filling, FillsWith, TellsSaid, TellsWhatWasSaid}
+use Rattle.span_ffi.specs.Details.{text_pairs, packed, are_short, span_fits_in_c, ReadAsSaid, Filling, FillsWith, AnswersSaid, AnswersWhatWasSaid}
 
 -- a name of two bytes, an empty target, and one field
 abbrev node : Node
@@ -24,8 +24,8 @@ meta_of_it = refl
 texts_of_it : packed (text_pairs node) ≡ codes "abkv"
 texts_of_it = refl
 
-numbers_tell_it : is_tellable node ≡ true
-numbers_tell_it = refl
+it_fits : span_fits_in_c node ≡ true
+it_fits = refl
 
 abbrev meta : SpanMeta
 meta = record { level = 1; name_len = 2; target_len = 0 }
@@ -97,41 +97,41 @@ last_stays = (omega arith, refl, refl)
 last_is_lost : FillsWith (1 ∷ 2 ∷ []) (bytes_in (7 ∷ 8 ∷ 9 ∷ []) (1 ∷ 2 ∷ 3 ∷ []) 2) → ⊥
 last_is_lost fills = let last : 3 ≡ 9 = ap (λ (bytes : List ℕ). get_or bytes 2 0) fills.1 in absurd (omega (arith, last))
 
-told : TellsSaid node meta (fields_in (field ∷ field ∷ []) (field ∷ field ∷ []) 1) (bytes_in (codes "....") (codes "abkv") 4) Done
+told : AnswersSaid node meta (fields_in (field ∷ field ∷ []) (field ∷ field ∷ []) 1) (bytes_in (codes "....") (codes "abkv") 4) Done
 told = (refl, (field ∷ [], codes "abkv", said_again, (omega arith, refl, refl), (omega arith, refl, refl)))
 
 -- there is no room for the field
-done_without_room : TellsSaid node meta (fields_in [] (field ∷ []) 1) (bytes_in (codes "....") (codes "abkv") 4) Done → ⊥
+done_without_room : AnswersSaid node meta (fields_in [] (field ∷ []) 1) (bytes_in (codes "....") (codes "abkv") 4) Done → ⊥
 done_without_room tells =
     let lengths = tells.1.0 in
     let room : length lengths ≤ 0 = tells.1.3.0 in
     let many : 1 ≡ length lengths = tells.1.3.2 in
     absurd (omega (arith, room, many))
 
-short_of_a_byte : TellsSaid node meta (fields_in (field ∷ []) (field ∷ []) 1) (bytes_in (codes "...") (codes "...") 4) ShortBuffer
+short_of_a_byte : AnswersSaid node meta (fields_in (field ∷ []) (field ∷ []) 1) (bytes_in (codes "...") (codes "...") 4) ShortBuffer
 short_of_a_byte = (refl, refl, refl, λ fit. let bytes : 4 ≤ 3 = fit.1 in absurd (omega arith))
 
-short_of_a_field : TellsSaid node meta (fields_in [] [] 1) (bytes_in (codes "....") (codes "....") 4) ShortBuffer
+short_of_a_field : AnswersSaid node meta (fields_in [] [] 1) (bytes_in (codes "....") (codes "....") 4) ShortBuffer
 short_of_a_field = (refl, refl, refl, λ fit. let fields : 1 ≤ 0 = fit.0 in absurd (omega arith))
 
-short_with_room : TellsSaid node meta (fields_in (field ∷ []) (field ∷ []) 1) (bytes_in (codes "....") (codes "....") 4) ShortBuffer → ⊥
+short_with_room : AnswersSaid node meta (fields_in (field ∷ []) (field ∷ []) 1) (bytes_in (codes "....") (codes "....") 4) ShortBuffer → ⊥
 short_with_room tells = tells.3 (omega arith, omega arith)
 
 -- how many bytes there is room for isn't told
-room_for_length : TellsSaid node meta (fields_in [] [] 1) (bytes_in (codes "...") (codes "...") 3) ShortBuffer → ⊥
+room_for_length : AnswersSaid node meta (fields_in [] [] 1) (bytes_in (codes "...") (codes "...") 3) ShortBuffer → ⊥
 room_for_length tells = let bytes : 3 ≡ 4 = tells.2 in absurd (omega (arith, bytes))
 
 -- nor are fewer fields than there are
-wrong_count : TellsSaid node meta (fields_in [] [] 0) (bytes_in (codes "....") (codes "....") 4) ShortBuffer → ⊥
+wrong_count : AnswersSaid node meta (fields_in [] [] 0) (bytes_in (codes "....") (codes "....") 4) ShortBuffer → ⊥
 wrong_count tells = let fields : 0 ≡ 1 = tells.1 in absurd (omega (arith, fields))
 
-too_long_for_nothing : TellsSaid node meta (fields_in [] [] 0) (bytes_in [] [] 0) (Refused CountFull) → ⊥
+too_long_for_nothing : AnswersSaid node meta (fields_in [] [] 0) (bytes_in [] [] 0) (Refused CountFull) → ⊥
 too_long_for_nothing tells = cc
 
-bad_data : TellsSaid node meta (fields_in [] [] 0) (bytes_in [] [] 0) BadData → ⊥
+bad_data : AnswersSaid node meta (fields_in [] [] 0) (bytes_in [] [] 0) BadData → ⊥
 bad_data tells = tells
 
-memory_is_not_short : TellsSaid node meta (fields_in [] [] 0) (bytes_in [] [] 0) (Refused Memory) → ⊥
+memory_is_not_short : AnswersSaid node meta (fields_in [] [] 0) (bytes_in [] [] 0) (Refused Memory) → ⊥
 memory_is_not_short tells = tells
 
 -- ---- of a registry
@@ -148,21 +148,21 @@ empty = record {
 }
 
 -- no span is open
-unknown : TellsWhatWasSaid 5 meta (fields_in [] [] 0) (bytes_in [] [] 0) empty (Refused Unknown) empty
+unknown : AnswersWhatWasSaid 5 meta (fields_in [] [] 0) (bytes_in [] [] 0) empty (Refused Unknown) empty
 unknown = (refl, refl)
 
-of_nothing : TellsWhatWasSaid 5 meta (fields_in [] [] 0) (bytes_in [] [] 0) empty Done empty → ⊥
+of_nothing : AnswersWhatWasSaid 5 meta (fields_in [] [] 0) (bytes_in [] [] 0) empty Done empty → ⊥
 of_nothing tells = tells.0
 
 -- the spans 5 and 9 are open
 abbrev of_two : CoreView
 of_two = record empty { world = record { spans = (5, node) ∷ (9, of_two_fields) ∷ []; stacks = [] ∷ [] } }
 
-told_of_five : TellsWhatWasSaid 5 meta (fields_in (field ∷ field ∷ []) (field ∷ field ∷ []) 1) (bytes_in (codes "....") (codes "abkv") 4) of_two Done of_two
+told_of_five : AnswersWhatWasSaid 5 meta (fields_in (field ∷ field ∷ []) (field ∷ field ∷ []) 1) (bytes_in (codes "....") (codes "abkv") 4) of_two Done of_two
 told_of_five = (told, refl)
 
 -- what was said of 5 isn't what was said of 9
-of_another : TellsWhatWasSaid 9 meta (fields_in (field ∷ field ∷ []) (field ∷ field ∷ []) 1) (bytes_in (codes "....") (codes "abkv") 4) of_two Done of_two → ⊥
+of_another : AnswersWhatWasSaid 9 meta (fields_in (field ∷ field ∷ []) (field ∷ field ∷ []) 1) (bytes_in (codes "....") (codes "abkv") 4) of_two Done of_two → ⊥
 of_another tells =
     let lengths = tells.0.1.0 in
     let behind = behind_meta meta tells.0.1.1 in
@@ -173,5 +173,5 @@ of_another tells =
     one_of_two (a ∷ []) bytes one two = absurd (omega (arith, two))
     one_of_two (a ∷ b ∷ rest) bytes one two = absurd (omega (arith, one))
 
-open_is_known : TellsWhatWasSaid 5 meta (fields_in [] [] 0) (bytes_in [] [] 0) of_two (Refused Unknown) of_two → ⊥
+open_is_known : AnswersWhatWasSaid 5 meta (fields_in [] [] 0) (bytes_in [] [] 0) of_two (Refused Unknown) of_two → ⊥
 open_is_known tells = let none = tells.0 in cc

@@ -7,8 +7,8 @@ use Rattle.span_layers.specs.Note.{PlainNote}
 use Rattle.span_border.specs.declared.status.Status.TheVariants.{Done, Refused, ShortBuffer}
 use Rattle.span_ffi.specs.declared.data.SpanField.{SpanField}
 use Rattle.span_ffi.specs.declared.data.SpanNote.{SpanNote}
-use Rattle.span_ffi.specs.Details.{packed, are_tellable, Filling}
-use Rattle.span_ffi.specs.Notes.{note_numbers, note_pairs, TellsNote}
+use Rattle.span_ffi.specs.Details.{packed, texts_fit_in_c, Filling}
+use Rattle.span_ffi.specs.Notes.{note_numbers, note_pairs, AnswersNote}
 
 -- an event in an inner span, with a field
 abbrev event : PlainNote
@@ -39,8 +39,8 @@ numbers_of_exit = refl
 texts_of_event : packed (note_pairs event) ≡ codes "ab:chikvv"
 texts_of_event = refl
 
-numbers_tell_it : are_tellable (note_pairs event) ≡ true
-numbers_tell_it = refl
+it_fits : texts_fit_in_c (note_pairs event) ≡ true
+it_fits = refl
 
 -- ---- into buffers
 
@@ -53,25 +53,25 @@ fields_in old new len = record { old = old; new = new; len = len }
 abbrev bytes_in : List ℕ → List ℕ → ℕ → Filling ℕ
 bytes_in old new len = record { old = old; new = new; len = len }
 
-told : TellsNote 7 event numbers (fields_in (field ∷ field ∷ []) (field ∷ field ∷ []) 1) (bytes_in (codes ".........+") (codes "ab:chikvv+") 9) Done
+told : AnswersNote 7 event numbers (fields_in (field ∷ field ∷ []) (field ∷ field ∷ []) 1) (bytes_in (codes ".........+") (codes "ab:chikvv+") 9) Done
 told = (refl, refl, (omega arith, refl, refl), (omega arith, refl, refl))
 
-of_another_batch : TellsNote 8 event numbers (fields_in (field ∷ []) (field ∷ []) 1) (bytes_in (codes ".........") (codes "ab:chikvv") 9) Done → ⊥
+of_another_batch : AnswersNote 8 event numbers (fields_in (field ∷ []) (field ∷ []) 1) (bytes_in (codes ".........") (codes "ab:chikvv") 9) Done → ⊥
 of_another_batch tells = let batch : 7 ≡ 8 = ap (λ (note : SpanNote). note.batch) tells.1 in absurd (omega (arith, batch))
 
-short_of_a_byte : TellsNote 7 event numbers (fields_in (field ∷ []) (field ∷ []) 1) (bytes_in (codes "........") (codes "........") 9) ShortBuffer
+short_of_a_byte : AnswersNote 7 event numbers (fields_in (field ∷ []) (field ∷ []) 1) (bytes_in (codes "........") (codes "........") 9) ShortBuffer
 short_of_a_byte = (refl, refl, refl, refl, λ fit. let bytes : 9 ≤ 8 = fit.1 in absurd (omega arith))
 
 -- its numbers are told all the same
-short_of_another_batch : TellsNote 8 event numbers (fields_in (field ∷ []) (field ∷ []) 1) (bytes_in (codes "........") (codes "........") 9) ShortBuffer → ⊥
+short_of_another_batch : AnswersNote 8 event numbers (fields_in (field ∷ []) (field ∷ []) 1) (bytes_in (codes "........") (codes "........") 9) ShortBuffer → ⊥
 short_of_another_batch tells = let batch : 7 ≡ 8 = ap (λ (note : SpanNote). note.batch) tells.1 in absurd (omega (arith, batch))
 
-short_with_room : TellsNote 7 event numbers (fields_in (field ∷ []) (field ∷ []) 1) (bytes_in (codes ".........") (codes ".........") 9) ShortBuffer → ⊥
+short_with_room : AnswersNote 7 event numbers (fields_in (field ∷ []) (field ∷ []) 1) (bytes_in (codes ".........") (codes ".........") 9) ShortBuffer → ⊥
 short_with_room tells = tells.4 (omega arith, omega arith)
 
 -- how many bytes there is room for isn't told
-room_for_length : TellsNote 7 event numbers (fields_in [] [] 1) (bytes_in (codes "...") (codes "...") 3) ShortBuffer → ⊥
+room_for_length : AnswersNote 7 event numbers (fields_in [] [] 1) (bytes_in (codes "...") (codes "...") 3) ShortBuffer → ⊥
 room_for_length tells = let bytes : 3 ≡ 9 = tells.3 in absurd (omega (arith, bytes))
 
-too_long_for_nothing : TellsNote 7 event numbers (fields_in [] [] 0) (bytes_in [] [] 0) (Refused CountFull) → ⊥
+too_long_for_nothing : AnswersNote 7 event numbers (fields_in [] [] 0) (bytes_in [] [] 0) (Refused CountFull) → ⊥
 too_long_for_nothing tells = cc

@@ -16,7 +16,7 @@ use Rattle.span_border.specs.declared.status.Status.TheVariants.{Done}
 use Rattle.span_ffi.specs.declared.data.SpanMeta.{SpanMeta}
 use Rattle.span_ffi.specs.declared.data.SpanField.{SpanField}
 use Rattle.span_ffi.specs.Data.{BeginsWithText, said_level, AreFields, said_fields, behind_field}
-use Rattle.span_ffi.specs.Details.{text_pairs, packed, are_short, are_tellable, is_tellable, ReadAsSaid, Filling, FillsWith, TellsSaid, field_lengths}
+use Rattle.span_ffi.specs.Details.{text_pairs, packed, are_short, texts_fit_in_c, span_fits_in_c, ReadAsSaid, Filling, FillsWith, AnswersSaid, field_lengths}
 use Rattle.span_ffi.specs.inside.Packing.{AreTexts, WritesAt}
 
 -- ---- how long the texts are
@@ -106,8 +106,8 @@ module _ (xs : List Field) (k : ℕ) (x : Field) (within : k < length xs) (is : 
   pub len_more : length (packed (plain_fields (drop k xs))) ≡ (length (string_bytes x.key) + length (string_bytes x.value)) + length (packed (plain_fields (drop (k + 1) xs)))
   len_more = ap (λ ps. length (packed ps)) left_more ∙ length_packed (key_value x) (plain_fields (drop (k + 1) xs))
 
-pub measured_tellable : (pairs : List KeyValue) → is_some (measured (2 ^ 64) 0 pairs) ≡ are_tellable pairs
-measured_tellable pairs =
+pub measured_fit : (pairs : List KeyValue) → is_some (measured (2 ^ 64) 0 pairs) ≡ texts_fit_in_c pairs
+measured_fit pairs =
     let start : 0 + length (packed pairs) ≡ length (packed pairs) = omega arith in
     measured_some (2 ^ 64) 0 pairs (lit< tt) ∙ ap (λ n. list_all are_short pairs && nat_lt n (2 ^ 64)) start
 
@@ -252,11 +252,11 @@ filled_texts old new bytes len many room written =
 
 -- what was said of a span is told where the one buffer has the lengths of its fields and the other its texts
 pub tells_said : (node : Node) (meta : SpanMeta) (fields : Filling SpanField) (into : Filling ℕ)
-    → is_tellable node ≡ true → All AreTexts (text_pairs node) → meta ≡ meta_lengths node
+    → span_fits_in_c node ≡ true → All AreTexts (text_pairs node) → meta ≡ meta_lengths node
     → FillsWith (map field_lengths node.fields) fields → FillsWith (packed (text_pairs node)) into
-    → TellsSaid node meta fields into Done
-tells_said node meta fields into tellable texts meta_is lengths_filled texts_filled = (
-  tellable,
+    → AnswersSaid node meta fields into Done
+tells_said node meta fields into fits texts meta_is lengths_filled texts_filled = (
+  fits,
   (
     map field_lengths node.fields,
     packed (text_pairs node),

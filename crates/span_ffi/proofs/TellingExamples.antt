@@ -15,11 +15,11 @@ use Rattle.span_core.specs.Core.{CoreView, due, refuses}
 use Rattle.span_core.specs.Step.{is_wanted_meta}
 use Rattle.span_core.specs.Wanted.{IsMaxLevel}
 use Rattle.span_border.specs.declared.status.Status.TheVariants.{Done, Refused, BadData, NoSuchWorker}
-use Rattle.span_ffi.specs.Closing.{WritesFirst, TellsClosed}
+use Rattle.span_ffi.specs.Closing.{WritesFirst, AnswersClosed}
 use Rattle.span_ffi.specs.Data.{said_fields}
 use Rattle.span_ffi.specs.Follows.{follows_field, FollowsFrom}
-use Rattle.span_ffi.specs.Questions.{SeesEntry, TellsLayers, TellsTimesFull}
-use Rattle.span_ffi.specs.Wants.{levels_up_to, TellsLevels}
+use Rattle.span_ffi.specs.Questions.{SeesEntry, AnswersLayers, AnswersTimesFull}
+use Rattle.span_ffi.specs.Wants.{levels_up_to, AnswersLevels}
 
 -- ---- buffers
 
@@ -63,15 +63,15 @@ core spans = record {
 }
 
 -- 7 closed with its parent 6, and neither is found afterwards
-closed_both : TellsClosed 7 (7 ∷ 6 ∷ []) (91 ∷ []) (7 ∷ []) 2 (core ((5, root) ∷ []))
+closed_both : AnswersClosed 7 (7 ∷ 6 ∷ []) (91 ∷ []) (7 ∷ []) 2 (core ((5, root) ∷ []))
 closed_both = ((refl, refl), refl)
 
 -- 5 stayed open
-stayed_open : TellsClosed 5 [] (91 ∷ []) (91 ∷ []) 0 (core ((5, root) ∷ []))
+stayed_open : AnswersClosed 5 [] (91 ∷ []) (91 ∷ []) 0 (core ((5, root) ∷ []))
 stayed_open = ((refl, refl), refl)
 
 -- a span that is found hasn't closed
-still_found : TellsClosed 5 (5 ∷ []) (91 ∷ []) (5 ∷ []) 1 (core ((5, root) ∷ [])) → ⊥
+still_found : AnswersClosed 5 (5 ∷ []) (91 ∷ []) (5 ∷ []) 1 (core ((5, root) ∷ [])) → ⊥
 still_found tells = true≢false tells.1
 
 lowest : SeesEntry 0 0 5 3 (core []) Done (core [])
@@ -112,27 +112,27 @@ four_layers = record (core ((5, root) ∷ [])) {
       ∷ [];
 }
 
-first_and_fourth : TellsLayers 5 9 four_layers Done four_layers
+first_and_fourth : AnswersLayers 5 9 four_layers Done four_layers
 unfolding is_admitted
 first_and_fourth = (refl, refl)
 
-all_that_have_a_rule : TellsLayers 5 13 four_layers Done four_layers → ⊥
+all_that_have_a_rule : AnswersLayers 5 13 four_layers Done four_layers → ⊥
 unfolding is_admitted
 all_that_have_a_rule tells = let bits = tells.0 in omega (arith, bits)
 
-without_layers : TellsLayers 5 0 (core ((5, root) ∷ [])) Done (core ((5, root) ∷ []))
+without_layers : AnswersLayers 5 0 (core ((5, root) ∷ [])) Done (core ((5, root) ∷ []))
 without_layers = (refl, refl)
 
-layers_of_no_span : TellsLayers 6 7 four_layers (Refused Unknown) four_layers
+layers_of_no_span : AnswersLayers 6 7 four_layers (Refused Unknown) four_layers
 layers_of_no_span = (refl, refl)
 
-three_times : TellsTimesFull 3 (core []) Done (core [])
+three_times : AnswersTimesFull 3 (core []) Done (core [])
 three_times = (refl, refl)
 
-another_number : TellsTimesFull 2 (core []) Done (core []) → ⊥
+another_number : AnswersTimesFull 2 (core []) Done (core []) → ⊥
 another_number tells = let times = tells.0 in omega (arith, times)
 
-refused : TellsTimesFull 3 (core []) NoSuchWorker (core []) → ⊥
+refused : AnswersTimesFull 3 (core []) NoSuchWorker (core []) → ⊥
 refused tells = tells
 
 -- ---- levels
@@ -145,13 +145,13 @@ up_to_trace Debug = omega arith
 up_to_trace Trace = omega arith
 
 -- without a layer each level is wanted
-all_levels : TellsLevels 5 (core []) Done (core [])
+all_levels : AnswersLevels 5 (core []) Done (core [])
 all_levels = ((Some Trace, refl, refl), λ meta wanted. up_to_trace meta.level, refl)
 
-without_trace : TellsLevels 4 (core []) Done (core []) → ⊥
+without_trace : AnswersLevels 4 (core []) Done (core []) → ⊥
 without_trace tells = let below : 4 < 4 = tells.1 (record { name = []; target = []; level = Trace }) refl in absurd (omega arith)
 
-more_than_there_are : TellsLevels 6 (core []) Done (core []) → ⊥
+more_than_there_are : AnswersLevels 6 (core []) Done (core []) → ⊥
 more_than_there_are tells =
     let most : levels_up_to tells.0.0 ≡ 5 = ap levels_up_to tells.0.1 in
     let six : 6 ≡ levels_up_to tells.0.0 = tells.0.2 in
@@ -161,11 +161,11 @@ more_than_there_are tells =
 abbrev deaf : CoreView
 deaf = record (core []) { rules = record { pairs = []; spans = 15 } ∷ [] }
 
-no_level : TellsLevels 0 deaf Done deaf
+no_level : AnswersLevels 0 deaf Done deaf
 unfolding is_admitted
 no_level = ((None, refl, refl), λ meta wanted. absurd (true≢false (sym wanted)), refl)
 
-errors_for_nobody : TellsLevels 1 deaf Done deaf → ⊥
+errors_for_nobody : AnswersLevels 1 deaf Done deaf → ⊥
 errors_for_nobody tells = by_most tells.0.0 tells.0.1 tells.0.2
   where
     by_most : (most : Option Level) → IsMaxLevel deaf.rules most → 1 ≡ levels_up_to most → ⊥
@@ -179,7 +179,7 @@ curious = record (core []) { rules = record { pairs = ([], Info) ∷ []; spans =
 abbrev is_up_to_info : Level → Type 0
 is_up_to_info level = verbosity level ≤ verbosity Info
 
-three_levels : TellsLevels 3 curious Done curious
+three_levels : AnswersLevels 3 curious Done curious
 unfolding is_admitted
 three_levels = (
   (Some Info, ((0, omega arith, refl), All-cons is_up_to_info Info [] (omega arith) (All-nil is_up_to_info)), refl),

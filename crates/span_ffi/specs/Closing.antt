@@ -17,8 +17,8 @@ WritesFirst things old new len =
     (new ≡ take (length old) things ++ drop (length things) old) × (len ≡ length things)
 
 -- the ids of the spans that closed are told, and there are some exactly where the named span is no longer found
-abbrev pub TellsClosed : ℕ → List ℕ → List ℕ → List ℕ → ℕ → CoreView → Type 0
-TellsClosed id closing into into' len new =
+abbrev pub AnswersClosed : ℕ → List ℕ → List ℕ → List ℕ → ℕ → CoreView → Type 0
+AnswersClosed id closing into into' len new =
     WritesFirst closing into into' len × (nat_lt 0 len ≡ is_none (find new.world.spans id))
 
 -- a worker leaves a span, and the ids of the spans that closed are told, child first
@@ -26,11 +26,11 @@ abbrev pub ExitsClosing : ℕ → ℕ → List ℕ → List ℕ → ℕ → Core
 ExitsClosing worker id into into' len old status new =
     let closing = closed_by_exit old.world worker id in
     AnswersWorker (exit worker id) (exited closing) old status new
-    × IfDone status (TellsClosed id closing into into' len new)
+    × IfDone status (AnswersClosed id closing into into' len new)
 
 -- a handle of a span is given back, and the ids of the spans that closed are told, child first
 abbrev pub ReleasesClosing : ℕ → ℕ → List ℕ → List ℕ → ℕ → CoreView → Status → CoreView → Type 0
 ReleasesClosing worker id into into' len old status new =
     let closing = closing_list old.world.spans id Handle in
     AnswersWorker (try_close worker id) (released closing) old status new
-    × IfDone status (TellsClosed id closing into into' len new)
+    × IfDone status (AnswersClosed id closing into into' len new)

@@ -27,12 +27,12 @@ abbrev pub are_short : KeyValue → Bool
 are_short pair = nat_lt (length pair.0) (2 ^ 32) && nat_lt (length pair.1) (2 ^ 32)
 
 -- numbers can tell how long pairs of texts are: each text has a length below 2^32, and all together one below 2^64
-abbrev pub are_tellable : List KeyValue → Bool
-are_tellable pairs = list_all are_short pairs && nat_lt (length (packed pairs)) (2 ^ 64)
+abbrev pub texts_fit_in_c : List KeyValue → Bool
+texts_fit_in_c pairs = list_all are_short pairs && nat_lt (length (packed pairs)) (2 ^ 64)
 
 -- the same of the texts of a span
-abbrev pub is_tellable : Node → Bool
-is_tellable node = are_tellable (text_pairs node)
+abbrev pub span_fits_in_c : Node → Bool
+span_fits_in_c node = texts_fit_in_c (text_pairs node)
 
 -- how long a key and its value are
 abbrev pub field_lengths : KeyValue → SpanField
@@ -56,19 +56,19 @@ FillsWith things filling = WritesAll things filling.old Done filling.new filling
 
 -- what is told of a span: data that say the same; or only how many fields and bytes these are, where a buffer is too
 -- short for them; or nothing, where a number is too small
-abbrev pub TellsSaid : Node → SpanMeta → Filling SpanField → Filling ℕ → Status → Type 0
-TellsSaid node meta fields bytes Done =
-    (is_tellable node ≡ true)
+abbrev pub AnswersSaid : Node → SpanMeta → Filling SpanField → Filling ℕ → Status → Type 0
+AnswersSaid node meta fields bytes Done =
+    (span_fits_in_c node ≡ true)
     × ((lengths : List SpanField) × (texts : List ℕ) × ReadAsSaid node meta lengths texts × FillsWith lengths fields
     × FillsWith texts bytes)
-TellsSaid node meta fields bytes ShortBuffer =
-    (is_tellable node ≡ true) × (fields.len ≡ length node.fields) × (bytes.len ≡ length (packed (text_pairs node)))
+AnswersSaid node meta fields bytes ShortBuffer =
+    (span_fits_in_c node ≡ true) × (fields.len ≡ length node.fields) × (bytes.len ≡ length (packed (text_pairs node)))
     × ((length node.fields ≤ length fields.old) × (length (packed (text_pairs node)) ≤ length bytes.old) → ⊥)
-TellsSaid node meta fields bytes (Refused CountFull) = is_tellable node ≡ false
-TellsSaid node meta fields bytes _ = ⊥
+AnswersSaid node meta fields bytes (Refused CountFull) = span_fits_in_c node ≡ false
+AnswersSaid node meta fields bytes _ = ⊥
 
 -- what was said of the span of an id is told, where it is open
-abbrev pub TellsWhatWasSaid : ℕ → SpanMeta → Filling SpanField → Filling ℕ → CoreView → Status → CoreView → Type 0
-TellsWhatWasSaid id meta fields bytes old (Refused Unknown) new = (find old.world.spans id ≡ None) × (new ≡ old)
-TellsWhatWasSaid id meta fields bytes old status new =
-    IsSomeAnd (find old.world.spans id) (λ node. TellsSaid node meta fields bytes status) × (new ≡ old)
+abbrev pub AnswersWhatWasSaid : ℕ → SpanMeta → Filling SpanField → Filling ℕ → CoreView → Status → CoreView → Type 0
+AnswersWhatWasSaid id meta fields bytes old (Refused Unknown) new = (find old.world.spans id ≡ None) × (new ≡ old)
+AnswersWhatWasSaid id meta fields bytes old status new =
+    IsSomeAnd (find old.world.spans id) (λ node. AnswersSaid node meta fields bytes status) × (new ≡ old)

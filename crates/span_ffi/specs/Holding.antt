@@ -16,25 +16,25 @@ abbrev pub held_as : Held → SpanHeld
 held_as held = record { id = held.id; handles = held.handles; entries = held.entries }
 
 -- Things that are known of a registry go into a buffer, or memory is refused; nothing changes.
-abbrev pub TellsAll : {X : Type 0} → List X → List X → List X → ℕ → CoreView → Status → CoreView → Type 0
-TellsAll things into into' len old (Refused Memory) new = new ≡ old
-TellsAll things into into' len old status new = WritesAll things into status into' len × (new ≡ old)
+abbrev pub AnswersAll : {X : Type 0} → List X → List X → List X → ℕ → CoreView → Status → CoreView → Type 0
+AnswersAll things into into' len old (Refused Memory) new = new ≡ old
+AnswersAll things into into' len old status new = WritesAll things into status into' len × (new ≡ old)
 
 -- Things that are known of an open span go into a buffer, or memory is refused; a span that isn't open is unknown.
 -- Nothing changes.
-abbrev pub TellsOf : {X : Type 0} → ℕ → List X → List X → List X → ℕ → CoreView → Status → CoreView → Type 0
-TellsOf id things into into' len old (Refused Unknown) new = (find old.world.spans id ≡ None) × (new ≡ old)
-TellsOf id things into into' len old status new =
-    IsOpen old.world.spans id × TellsAll things into into' len old status new
+abbrev pub AnswersOf : {X : Type 0} → ℕ → List X → List X → List X → ℕ → CoreView → Status → CoreView → Type 0
+AnswersOf id things into into' len old (Refused Unknown) new = (find old.world.spans id ≡ None) × (new ≡ old)
+AnswersOf id things into into' len old status new =
+    IsOpen old.world.spans id × AnswersAll things into into' len old status new
 
 -- the ids of the open spans
-abbrev pub TellsOpen : List ℕ → List ℕ → ℕ → CoreView → Status → CoreView → Type 0
-TellsOpen into into' len old = TellsAll (all_ids old.world.spans) into into' len old
+abbrev pub AnswersOpen : List ℕ → List ℕ → ℕ → CoreView → Status → CoreView → Type 0
+AnswersOpen into into' len old = AnswersAll (all_ids old.world.spans) into into' len old
 
 -- what keeps a span open
-abbrev pub TellsHolders : ℕ → List SpanHeld → List SpanHeld → ℕ → CoreView → Status → CoreView → Type 0
-TellsHolders id into into' len old = TellsOf id (map held_as (what_holds old.world.spans id)) into into' len old
+abbrev pub AnswersHolders : ℕ → List SpanHeld → List SpanHeld → ℕ → CoreView → Status → CoreView → Type 0
+AnswersHolders id into into' len old = AnswersOf id (map held_as (what_holds old.world.spans id)) into into' len old
 
 -- the workers that are inside a span
-abbrev pub TellsWorkers : ℕ → List ℕ → List ℕ → ℕ → CoreView → Status → CoreView → Type 0
-TellsWorkers id into into' len old = TellsOf id (workers_with old.world.stacks id) into into' len old
+abbrev pub AnswersWorkers : ℕ → List ℕ → List ℕ → ℕ → CoreView → Status → CoreView → Type 0
+AnswersWorkers id into into' len old = AnswersOf id (workers_with old.world.stacks id) into into' len old

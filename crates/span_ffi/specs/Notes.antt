@@ -12,7 +12,7 @@ use Rattle.span_border.specs.declared.status.Status.{Status}
 use Rattle.span_border.specs.declared.status.Status.TheVariants.{Done, Refused, NoLine, ShortBuffer}
 use Rattle.span_ffi.specs.declared.data.SpanNote.{SpanNote}
 use Rattle.span_ffi.specs.declared.data.SpanField.{SpanField}
-use Rattle.span_ffi.specs.Details.{packed, are_tellable, field_lengths, Filling, FillsWith}
+use Rattle.span_ffi.specs.Details.{packed, texts_fit_in_c, field_lengths, Filling, FillsWith}
 use Rattle.span_ffi.specs.Lines.{Fills}
 
 -- the number of a kind
@@ -54,28 +54,28 @@ note_pairs note = (note.path, message_in note.event) ∷ note.fields
 -- what is told of a note: its numbers, how long the key and the value of each field are, and its texts one after another;
 -- or only its numbers, and how many fields and bytes these are, where a buffer is too short for them; or nothing, where a
 -- number is too small
-abbrev pub TellsNote : ℕ → PlainNote → SpanNote → Filling SpanField → Filling ℕ → Status → Type 0
-TellsNote batch note told fields bytes Done =
-    (are_tellable (note_pairs note) ≡ true) × (told ≡ note_numbers batch note)
+abbrev pub AnswersNote : ℕ → PlainNote → SpanNote → Filling SpanField → Filling ℕ → Status → Type 0
+AnswersNote batch note told fields bytes Done =
+    (texts_fit_in_c (note_pairs note) ≡ true) × (told ≡ note_numbers batch note)
     × FillsWith (map field_lengths note.fields) fields × FillsWith (packed (note_pairs note)) bytes
-TellsNote batch note told fields bytes ShortBuffer =
-    (are_tellable (note_pairs note) ≡ true) × (told ≡ note_numbers batch note)
+AnswersNote batch note told fields bytes ShortBuffer =
+    (texts_fit_in_c (note_pairs note) ≡ true) × (told ≡ note_numbers batch note)
     × (fields.len ≡ length note.fields) × (bytes.len ≡ length (packed (note_pairs note)))
     × ((length note.fields ≤ length fields.old) × (length (packed (note_pairs note)) ≤ length bytes.old) → ⊥)
-TellsNote batch note told fields bytes (Refused CountFull) = are_tellable (note_pairs note) ≡ false
-TellsNote batch note told fields bytes _ = ⊥
+AnswersNote batch note told fields bytes (Refused CountFull) = texts_fit_in_c (note_pairs note) ≡ false
+AnswersNote batch note told fields bytes _ = ⊥
 
 -- the note of this line is told
-abbrev pub TellsNoteOf : LineReaderView → PlainLine → SpanNote → Filling SpanField → Filling ℕ → Status → Type 0
-TellsNoteOf view line told fields bytes status =
-    (note : PlainNote) × IsNoteOf view line note × TellsNote line.batch note told fields bytes status
+abbrev pub AnswersNoteOf : LineReaderView → PlainLine → SpanNote → Filling SpanField → Filling ℕ → Status → Type 0
+AnswersNoteOf view line told fields bytes status =
+    (note : PlainNote) × IsNoteOf view line note × AnswersNote line.batch note told fields bytes status
 
 -- The first line that waits is given out as `GivesLine` says, but that its note is told in its place. Where that isn't
 -- told whole, the line stays the first one.
 abbrev pub GivesNote : SpanNote → Filling SpanField → Filling ℕ → LineReaderView → Status → LineReaderView → Type 0
 GivesNote told fields bytes old Done new =
     (line : PlainLine) × Fills old (record new { given = old.given; waiting = line ∷ new.waiting })
-    × (new.given ≡ old.given ++ line ∷ []) × TellsNoteOf new line told fields bytes Done
+    × (new.given ≡ old.given ++ line ∷ []) × AnswersNoteOf new line told fields bytes Done
 GivesNote told fields bytes old NoLine new = Fills old new × (new.waiting ≡ [])
 GivesNote told fields bytes old status new =
-    Fills old new × IsSomeAnd (slice_get new.waiting 0) (λ line. TellsNoteOf new line told fields bytes status)
+    Fills old new × IsSomeAnd (slice_get new.waiting 0) (λ line. AnswersNoteOf new line told fields bytes status)

@@ -21,13 +21,13 @@ SeesEntry worker place id depth old _ new = ⊥
 
 -- Which layers admit an open span, as bits, of which bit n is layer n's: those whose rule admits its target and its
 -- level.
-abbrev pub TellsLayers : ℕ → ℕ → CoreView → Status → CoreView → Type 0
-TellsLayers id layers old Done new =
+abbrev pub AnswersLayers : ℕ → ℕ → CoreView → Status → CoreView → Type 0
+AnswersLayers id layers old Done new =
     IsSomeAnd (find old.world.spans id) (λ node. layers ≡ admission_set old.rules node.target node.level) × (new ≡ old)
-TellsLayers id layers old (Refused Unknown) new = (find old.world.spans id ≡ None) × (new ≡ old)
-TellsLayers id layers old _ new = ⊥
+AnswersLayers id layers old (Refused Unknown) new = (find old.world.spans id ≡ None) × (new ≡ old)
+AnswersLayers id layers old _ new = ⊥
 
 -- how often a call found no place in the ring
-abbrev pub TellsTimesFull : ℕ → CoreView → Status → CoreView → Type 0
-TellsTimesFull times old Done new = (times ≡ old.times_full) × (new ≡ old)
-TellsTimesFull times old _ new = ⊥
+abbrev pub AnswersTimesFull : ℕ → CoreView → Status → CoreView → Type 0
+AnswersTimesFull times old Done new = (times ≡ old.times_full) × (new ≡ old)
+AnswersTimesFull times old _ new = ⊥

@@ -18,20 +18,20 @@ abbrev pub IsAsked : ℕ → List ℕ → Type 0
 IsAsked level target = (level ≤ 4) × IsUtf8 target
 
 -- 1 is told where some layer's rule admits the target at the level, else 0
-abbrev pub TellsWanted : ℕ → List ℕ → ℕ → CoreView → Status → CoreView → Type 0
-TellsWanted level target wanted old Done new =
+abbrev pub AnswersWanted : ℕ → List ℕ → ℕ → CoreView → Status → CoreView → Type 0
+AnswersWanted level target wanted old Done new =
     IsAsked level target × (wanted ≡ flag (some_rule_admits old.rules target (said_level level))) × (new ≡ old)
-TellsWanted level target wanted old BadData new = (IsAsked level target → ⊥) × (new ≡ old)
-TellsWanted level target wanted old (Refused Memory) new = IsAsked level target × (new ≡ old)
-TellsWanted level target wanted old _ new = ⊥
+AnswersWanted level target wanted old BadData new = (IsAsked level target → ⊥) × (new ≡ old)
+AnswersWanted level target wanted old (Refused Memory) new = IsAsked level target × (new ≡ old)
+AnswersWanted level target wanted old _ new = ⊥
 
 -- the same of the target and the level of a callsite
-abbrev pub TellsWantedAt : ℕ → ℕ → List PlainMeta → CoreView → Status → CoreView → Type 0
-TellsWantedAt callsite wanted callsites old Done new =
+abbrev pub AnswersWantedAt : ℕ → ℕ → List PlainMeta → CoreView → Status → CoreView → Type 0
+AnswersWantedAt callsite wanted callsites old Done new =
     IsSomeAnd (slice_get callsites callsite) (λ meta. wanted ≡ flag (some_rule_admits old.rules meta.target meta.level))
     × (new ≡ old)
-TellsWantedAt callsite wanted callsites old NoSuchCallsite new = (slice_get callsites callsite ≡ None) × (new ≡ old)
-TellsWantedAt callsite wanted callsites old _ new = ⊥
+AnswersWantedAt callsite wanted callsites old NoSuchCallsite new = (slice_get callsites callsite ≡ None) × (new ≡ old)
+AnswersWantedAt callsite wanted callsites old _ new = ⊥
 
 -- how many levels there are from ERROR up to this one, and 0 where there is none
 abbrev pub levels_up_to : Option Level → ℕ
@@ -40,8 +40,8 @@ levels_up_to (Some level) = verbosity level + 1
 
 -- It is told how many levels there are from ERROR up to the one above which nothing is wanted (`IsMaxLevel`). A span or
 -- an event that is wanted has one of these.
-abbrev pub TellsLevels : ℕ → CoreView → Status → CoreView → Type 0
-TellsLevels levels old Done new =
+abbrev pub AnswersLevels : ℕ → CoreView → Status → CoreView → Type 0
+AnswersLevels levels old Done new =
     ((most : Option Level) × IsMaxLevel old.rules most × (levels ≡ levels_up_to most))
     × ((meta : PlainMeta) → is_wanted_meta old.rules meta ≡ true → verbosity meta.level < levels) × (new ≡ old)
-TellsLevels levels old _ new = ⊥
+AnswersLevels levels old _ new = ⊥

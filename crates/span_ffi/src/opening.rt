@@ -260,8 +260,8 @@ fn make(
     let Ok((ring, tap)) = Ring::pair(alloc, checked) else {
         return Err(Fault::Memory);
     };
-    let (filters, tellers) = layers.split();
-    let lines = LineReader::new(alloc, tap, tellers);
+    let (filters, formatting) = layers.split();
+    let lines = LineReader::new(alloc, tap, formatting);
     let Ok(registry) = box_registry(alloc, checked, filters, ring) else {
         return Err(Fault::Memory);
     };

@@ -3,6 +3,7 @@ use Rattle.std.proofs.Common.{◌≡◌, ◌≢◌, ℕ, ◌<◌, Bool, true, �
 use Rattle.std.specs.Prelude.{Contains, ◌↔◌}
 use Rattle.std.proofs.lemmas.Bool.Decides.{eqb_tells}
 use Rattle.std.proofs.lemmas.Bool.{cases_Bool, eq-eqb, ne_eqb}
+use Rattle.span_id.specs.Ids.{has}
 use Rattle.span_forest.specs.declared.holding.Held.{Held}
 use Rattle.span_forest.specs.Node.{Node}
 use Rattle.span_slots.specs.Table.{find, AreApart}
@@ -17,7 +18,6 @@ use Rattle.span_forest.proofs.Contained.{contains_first, contains_later, contain
 use Rattle.span_forest.proofs.Walks.{OnWalk, and_true, true_and, not_held, OnWalk-from_stands, stands-from_OnWalk, Live-from_is_live, all_live}
 use Rattle.span_forest.proofs.Spared.{on_walk_open, held_node}
 use Rattle.span_forest.proofs.Upheld.{IsUpheld, held_more, empty_from_no_holder}
-use Rattle.span_forest.specs.Live.{stands_in}
 
 kept_contains : (f : ℕ → Node → Bool) (spans : Spans) (id : ℕ) (node : Node) → find spans id ≡ Some node → f id node ≡ true → Contains (map held_of (filter (λ e. f e.0 e.1) spans)) (held_of (id, node))
 kept_contains f [] id node h t = cc
@@ -63,7 +63,7 @@ contains_kept f (e ∷ es) held a c =
 
 -- the span has a holder, and the id stands on its walk
 abbrev pub holding : Spans → ℕ → ℕ → Node → Bool
-holding spans id x node = is_held node && stands_in id (walk spans x)
+holding spans id x node = is_held node && has (walk spans x) id
 
 -- the spans that have a holder, and on whose walk the id stands
 abbrev pub held_below : Spans → ℕ → List Held
@@ -83,7 +83,7 @@ held_passing test (e ∷ es) =
 
 -- what keeps a span open, as one test of each span
 pub holds_below : (spans : Spans) (id : ℕ) → what_holds spans id ≡ held_below spans id
-holds_below spans id = sym (held_passing (λ x. stands_in id (walk spans x)) spans)
+holds_below spans id = sym (held_passing (λ x. has (walk spans x) id) spans)
 
 nothing_held : (spans : Spans) → held_spans spans ≡ [] → total_held spans ≡ 0
 nothing_held [] h = refl
@@ -105,13 +105,13 @@ pub kept_by : (spans : Spans) (id holder : ℕ) (node : Node) → IsForest spans
 kept_by spans id holder node w found some on_walk =
     subst (λ v. Contains v (held_of (holder, node))) (sym (holds_below spans id))
     (kept_contains (holding spans id) spans holder node found
-    (and_true (is_held node) (stands_in id (walk spans holder)) (held_node node some)
+    (and_true (is_held node) (has (walk spans holder) id) (held_node node some)
     (stands-from_OnWalk spans holder id on_walk (length spans) (w.walks_end holder (open_from_node spans holder node found)))))
 
 -- the id stands on the walk of what keeps it open
 pub holder_above : (spans : Spans) (id : ℕ) (held : Held) → Kept (holding spans id) spans held → OnWalk spans held.id id
 holder_above spans id held k =
-    let stands : stands_in id (walk spans held.id) ≡ true = (true_and (is_held k.node) (stands_in id (walk spans held.id)) k.passes).1 in
+    let stands : has (walk spans held.id) id ≡ true = (true_and (is_held k.node) (has (walk spans held.id) id) k.passes).1 in
     let on = OnWalk-from_stands spans id (length spans) (Some held.id) stands in
     let same : held.id ≡ on.0 = (let q = on.1 in cc) in
     rw same on.2

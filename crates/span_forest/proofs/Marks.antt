@@ -8,6 +8,7 @@ use Rattle.std.proofs.lemmas.List.Elements.{filter-append}
 use Rattle.std.specs.Prelude.{slice_index, is_some, IsTrue}
 use Rattle.std.specs.Option.{option_map}
 use Rattle.span_id.specs.Id.{slot_of, generation_of}
+use Rattle.span_id.specs.Ids.{has}
 use Rattle.span_slots.specs.Table.{find, AreApart, all_ids}
 use Rattle.span_forest.specs.declared.span.Span.{Span}
 use Rattle.span_forest.specs.declared.holding.Held.{Held}
@@ -23,11 +24,10 @@ use Rattle.span_forest.proofs.KeptOpen.{holding, holds_below}
 use Rattle.span_forest.proofs.Counts.{node_found, none_is}
 use Rattle.span_forest.proofs.Nodes.{value_of_open, find-nodes}
 use Rattle.span_forest.proofs.Paths.{walk_from, walk_step}
-use Rattle.span_forest.specs.Live.{stands_in}
 
 -- whether the rest of a walk has an id
 abbrev pub below_from : Spans → ℕ → Option ℕ → Bool
-below_from spans id o = stands_in id (walk_from spans o)
+below_from spans id o = has (walk_from spans o) id
 
 below_self : (spans : Spans) (id : ℕ) → IsForest spans → IsOpen spans id → is_below spans id id ≡ true
 below_self spans id w o = rw (walk_step spans id w o, eq-eqb id id refl) refl

@@ -2,13 +2,14 @@
 use Rattle.std.proofs.Common.{◌≡◌, ℕ, zero, suc, ◌<◌, Bool, true, false, not, List, [], ◌∷◌, length, filter, take, Option, Some, None, IsSome, IsTrue, refl, sym, ap, ◌∙◌, inl, inr, arith}
 use Rattle.std.proofs.lemmas.Bool.Decides.{nat_tests, eqb_tells}
 use Rattle.std.proofs.lemmas.Bool.{cases_Bool, false≢true}
+use Rattle.span_id.specs.Ids.{has}
 use Rattle.span_forest.specs.declared.span.Holder.{Holder}
 use Rattle.span_forest.specs.Node.{Node}
 use Rattle.span_slots.specs.Table.{find}
 use Rattle.span_forest.specs.Spans.{Spans, IsOpen, parent_of, with_change}
 use Rattle.span_forest.specs.Walk.{walk_within, walk}
 use Rattle.span_forest.specs.Count.{holders, is_held, holders_in, reference_count}
-use Rattle.span_forest.specs.Live.{stands_in, is_live, live_part}
+use Rattle.span_forest.specs.Live.{is_live, live_part}
 use Rattle.span_forest.specs.Holders.{with_less}
 use Rattle.span_forest.specs.Release.{without_holder, closing_list, spans_left}
 use Rattle.span_forest.specs.Forest.{IsForest}
@@ -18,7 +19,7 @@ use Rattle.span_forest.proofs.Walks.{OnWalk, OnWalk-up, Live-from_is_live, is_li
 use Rattle.span_forest.proofs.Nodes.{with_less-parent, find-changed_other, parent_of-changed, IsForest-changed, changed_open, IsOpen-changed}
 use Rattle.span_forest.proofs.Totals.{length-changed}
 
-filtered : (p : ℕ → Bool) (s : ℕ) (xs : List ℕ) → stands_in s (filter p xs) ≡ true → p s ≡ true
+filtered : (p : ℕ → Bool) (s : ℕ) (xs : List ℕ) → has (filter p xs) s ≡ true → p s ≡ true
 filtered p s [] h = cc
 filtered p s (x ∷ xs) h =
     elim (cases_Bool (p x)) [
@@ -29,7 +30,7 @@ filtered p s (x ∷ xs) h =
       | inr t ↦ filtered p s xs (rw t at h)
     ]
 
-stands_filtered : (p : ℕ → Bool) (s : ℕ) (xs : List ℕ) → stands_in s xs ≡ true → p s ≡ true → stands_in s (filter p xs) ≡ true
+stands_filtered : (p : ℕ → Bool) (s : ℕ) (xs : List ℕ) → has xs s ≡ true → p s ≡ true → has (filter p xs) s ≡ true
 stands_filtered p s [] h k = cc
 stands_filtered p s (x ∷ xs) h k =
     elim (eqb_tells x s) [
@@ -38,7 +39,7 @@ stands_filtered p s (x ∷ xs) h k =
           elim (cases_Bool (p x)) [ inl t ↦ rw (t, q.0) r | inr t ↦ rw t r ])
     ]
 
-pub stands_unfiltered : (p : ℕ → Bool) (s : ℕ) (xs : List ℕ) → stands_in s (filter p xs) ≡ true → stands_in s xs ≡ true
+pub stands_unfiltered : (p : ℕ → Bool) (s : ℕ) (xs : List ℕ) → has (filter p xs) s ≡ true → has xs s ≡ true
 stands_unfiltered p s [] h = cc
 stands_unfiltered p s (x ∷ xs) h =
     elim (eqb_tells x s) [
@@ -144,21 +145,21 @@ module _ (spans : Spans) (forest : IsForest spans) (positive : (j : ℕ) → IsO
   left_ranked : IsRanked (without_holder spans id holder)
   left_ranked = ranked (without_holder spans id holder) (IsForest-changed (with_less holder) (with_less-parent holder) spans id forest)
 
-  listed_dead : (s : ℕ) → stands_in s (closing_list spans id holder) ≡ true → is_live (without_holder spans id holder) s ≡ false
+  listed_dead : (s : ℕ) → has (closing_list spans id holder) s ≡ true → is_live (without_holder spans id holder) s ≡ false
   listed_dead s h = not_true (is_live (without_holder spans id holder) s) (filtered (λ x. not (is_live (without_holder spans id holder) x)) s (walk (without_holder spans id holder) id) h)
 
   -- a span that keeps a holder isn't listed
-  pub holder_spared : (s : ℕ) → 0 < holders_in (find (without_holder spans id holder) s) → IsTrue (stands_in s (closing_list spans id holder)) → ⊥
+  pub holder_spared : (s : ℕ) → 0 < holders_in (find (without_holder spans id holder) s) → IsTrue (has (closing_list spans id holder) s) → ⊥
   holder_spared s h t = both _ (held_live (without_holder spans id holder) s left_ranked h) (listed_dead s t)
 
   -- nor is one with a child that stays open
-  pub child_spared : (child parent : ℕ) → parent_of spans child ≡ Some parent → IsOpen (spans_left spans id holder) child → IsTrue (stands_in parent (closing_list spans id holder)) → ⊥
+  pub child_spared : (child parent : ℕ) → parent_of spans child ≡ Some parent → IsOpen (spans_left spans id holder) child → IsTrue (has (closing_list spans id holder) parent) → ⊥
   child_spared child parent e o t =
       let m = without_holder spans id holder in
       let e2 : parent_of m child ≡ Some parent = parent_of-changed (with_less holder) (with_less-parent holder) spans id child ∙ e in
       both _ (parent_live m child parent left_ranked e2 (kept_passes (is_live m) m child o)) (listed_dead parent t)
 
-  listed_gone : (s : ℕ) → IsTrue (stands_in s (closing_list spans id holder)) → find (spans_left spans id holder) s ≡ None
+  listed_gone : (s : ℕ) → IsTrue (has (closing_list spans id holder) s) → find (spans_left spans id holder) s ≡ None
   listed_gone s t =
       let m = without_holder spans id holder in
       not_some (find (live_part m) s) (λ o. both _ (kept_passes (is_live m) m s o) (listed_dead s t))
@@ -172,7 +173,7 @@ module _ (spans : Spans) (forest : IsForest spans) (positive : (j : ℕ) → IsO
       ]
 
   -- an open span that is dead without the holder is listed
-  dead_listed : (s : ℕ) → IsOpen spans s → is_live (without_holder spans id holder) s ≡ false → IsTrue (stands_in s (closing_list spans id holder))
+  dead_listed : (s : ℕ) → IsOpen spans s → is_live (without_holder spans id holder) s ≡ false → IsTrue (has (closing_list spans id holder) s)
   dead_listed s o dead =
       let m = without_holder spans id holder in
       let r = ranked spans forest in
@@ -187,15 +188,15 @@ module _ (spans : Spans) (forest : IsForest spans) (positive : (j : ℕ) → IsO
       ]
 
   -- exactly the listed spans are gone
-  pub gone_exactly : (s : ℕ) → IsOpen spans s → (IsTrue (stands_in s (closing_list spans id holder)) → find (spans_left spans id holder) s ≡ None) × (find (spans_left spans id holder) s ≡ None → IsTrue (stands_in s (closing_list spans id holder)))
+  pub gone_exactly : (s : ℕ) → IsOpen spans s → (IsTrue (has (closing_list spans id holder) s) → find (spans_left spans id holder) s ≡ None) × (find (spans_left spans id holder) s ≡ None → IsTrue (has (closing_list spans id holder) s))
   gone_exactly s o = (listed_gone s, λ h. dead_listed s o (gone_dead s o h))
 
   -- which are those that are no longer live
-  pub dead_exactly : (s : ℕ) → IsOpen spans s → (IsTrue (stands_in s (closing_list spans id holder)) → is_live (without_holder spans id holder) s ≡ false) × (is_live (without_holder spans id holder) s ≡ false → IsTrue (stands_in s (closing_list spans id holder)))
+  pub dead_exactly : (s : ℕ) → IsOpen spans s → (IsTrue (has (closing_list spans id holder) s) → is_live (without_holder spans id holder) s ≡ false) × (is_live (without_holder spans id holder) s ≡ false → IsTrue (has (closing_list spans id holder) s))
   dead_exactly s o = (listed_dead s, dead_listed s o)
 
   -- each of them was open
-  pub listed_open : IsOpen spans id → (s : ℕ) → IsTrue (stands_in s (closing_list spans id holder)) → IsOpen spans s
+  pub listed_open : IsOpen spans id → (s : ℕ) → IsTrue (has (closing_list spans id holder) s) → IsOpen spans s
   listed_open o s t =
       let m = without_holder spans id holder in
       let stands = stands_unfiltered (λ x. not (is_live m x)) s (walk m id) t in
@@ -204,7 +205,7 @@ module _ (spans : Spans) (forest : IsForest spans) (positive : (j : ℕ) → IsO
       IsOpen-changed (with_less holder) spans id s (on_walk_open m left_ranked k.0 s k.2 (rw same (changed_open (with_less holder) spans id id o)))
 
   -- and each other span stays as it is without the holder
-  pub others_stay : (s : ℕ) → (IsTrue (stands_in s (closing_list spans id holder)) → ⊥) → find (spans_left spans id holder) s ≡ find (without_holder spans id holder) s
+  pub others_stay : (s : ℕ) → (IsTrue (has (closing_list spans id holder) s) → ⊥) → find (spans_left spans id holder) s ≡ find (without_holder spans id holder) s
   others_stay s unlisted =
       let m = without_holder spans id holder in
       elim (cases_Bool (is_live m s)) [

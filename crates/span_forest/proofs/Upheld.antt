@@ -4,6 +4,7 @@ use Rattle.std.specs.Prelude.{◌⊎◌, IsSome}
 use Rattle.std.specs.Option.{option_map}
 use Rattle.std.proofs.lemmas.Bool.Decides.{nat_tests, eqb_tells}
 use Rattle.std.proofs.lemmas.Bool.{cases_Bool, cases_lt, eq-eqb}
+use Rattle.span_id.specs.Ids.{has}
 use Rattle.span_forest.specs.declared.span.Holder.{Holder}
 use Rattle.span_forest.specs.Node.{Node}
 use Rattle.span_slots.specs.Table.{find, with_entry, AreApart}
@@ -11,7 +12,7 @@ use Rattle.span_forest.specs.Spans.{Spans, IsOpen, parent_in, parent_of, with_ch
 use Rattle.span_forest.specs.Walk.{walk}
 use Rattle.span_forest.specs.Count.{holders, holders_in, is_held, children, reference_count, total_held}
 use Rattle.span_forest.specs.Forest.{IsForest}
-use Rattle.span_forest.specs.Live.{stands_in, is_live, live_part}
+use Rattle.span_forest.specs.Live.{is_live, live_part}
 use Rattle.span_forest.specs.Holders.{with_less}
 use Rattle.span_forest.specs.Release.{without_holder, closing_list, spans_left}
 use Rattle.span_forest.proofs.Ranks.{IsRanked, ranked}
@@ -154,7 +155,7 @@ upheld_released spans id holder forest =
     upheld_live m (ranked m (IsForest-changed (with_less holder) (with_less-parent holder) spans id forest))
 
 -- a span of a closing list is the one that gives the holder back, or is open
-pub listed_known : (spans : Spans) (id : ℕ) (holder : Holder) → IsForest spans → (s : ℕ) → stands_in s (closing_list spans id holder) ≡ true → (id ≡ s) ⊎ IsOpen spans s
+pub listed_known : (spans : Spans) (id : ℕ) (holder : Holder) → IsForest spans → (s : ℕ) → has (closing_list spans id holder) s ≡ true → (id ≡ s) ⊎ IsOpen spans s
 listed_known spans id holder forest s t =
     let m = without_holder spans id holder in
     let k = OnWalk-from_stands m s (length m) (Some id) (stands_unfiltered (λ x. not (is_live m x)) s (walk m id) t) in

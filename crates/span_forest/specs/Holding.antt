@@ -1,5 +1,6 @@
 -- What keeps a span open: the handles and entries of the spans at it or below it.
 use Rattle.std.specs.Prelude.{ℕ, ◌+◌, ◌≡◌, Bool, true, false, ◌&&◌, ◌==◌, cond, List, [], ◌∷◌, ◌++◌, replicate, map, filter}
+use Rattle.span_id.specs.Ids.{has}
 use Rattle.span_forest.specs.declared.span.Holder.{Holder}
 use Rattle.span_forest.specs.declared.span.Holder.TheVariants.{Handle, Entry}
 use Rattle.span_forest.specs.declared.holding.Held.{Held}
@@ -10,7 +11,6 @@ use Rattle.span_forest.specs.Walk.{walk}
 use Rattle.span_forest.specs.Count.{is_held}
 use Rattle.span_forest.specs.Holders.{IsHeld}
 use Rattle.span_forest.specs.Release.{spans_left}
-use Rattle.span_forest.specs.Live.{stands_in}
 
 -- a span with how many handles and how many entries it has
 abbrev pub held_of : ℕ × Node → Held
@@ -22,7 +22,7 @@ held_spans spans = map held_of (filter (λ e. is_held e.1) spans)
 
 -- what keeps a span open: those of them on whose walk it stands
 abbrev pub what_holds : Spans → ℕ → List Held
-what_holds spans id = filter (λ held. stands_in id (walk spans held.id)) (held_spans spans)
+what_holds spans id = filter (λ held. has (walk spans held.id) id) (held_spans spans)
 
 -- the spans after these releases, one after the other: each is an id and the kind of holder that is given back
 abbrev pub spans_after : Spans → List (ℕ × Holder) → Spans

@@ -2,10 +2,10 @@
 
 use crate::filters::{Admit, Admitters};
 use crate::form::{Form, text, text_onto};
+use crate::formatting::{Formatters, Say};
 use crate::hooks::Hooks;
 use crate::note::Note;
 use crate::rule::{Rule, admits};
-use crate::tellers::{Formatters, Say};
 use span_id::Meta;
 use std::alloc::AllocError;
 

@@ -11,7 +11,7 @@ use crate::layer_lines::LayerLines;
 use crate::line::Line;
 use crate::note_lines::NoteLines;
 use crate::ring::{Consuming, Ring, Tap};
-use span_layers::{Formatters, Say, Tellers};
+use span_layers::{Formatters, Formatting, Say};
 use std::alloc::Global;
 use std::marker::Model;
 
@@ -63,12 +63,12 @@ impl<V> Model for Drain<V> {
 }
 
 impl<F: Drop> Drain<Formatters<F>> {
-    /// A drain that took nothing, and which writes as the tellers do. It takes no memory.
-    pub fn new(alloc: Global, tap: Tap, tellers: Tellers<F>) -> Drain<Formatters<F>>
-        ensures { result ≡ record { name = tap; forms = tellers.forms; taken = []; lines = []; missed = 0 } }
+    /// A drain that took nothing, and which writes in this formatting. It takes no memory.
+    pub fn new(alloc: Global, tap: Tap, formatting: Formatting<F>) -> Drain<Formatters<F>>
+        ensures { result ≡ record { name = tap; forms = formatting.forms; taken = []; lines = []; missed = 0 } }
     {
         let Tap { consumer } = tap;
-        let Tellers { forms, formatters } = tellers;
+        let Formatting { forms, formatters } = formatting;
         Drain {
             consumer,
             taken: 0,

@@ -8,7 +8,7 @@ use crate::batch::Batch;
 use crate::line::Line;
 use crate::note_lines::NoteLines;
 use crate::outlet::Outlet;
-use span_layers::{Formatters, Say, Tellers};
+use span_layers::{Formatters, Formatting, Say};
 use std::alloc::{AllocError, Global};
 use std::marker::Model;
 
@@ -48,11 +48,11 @@ impl<V> Model for Kept<V> {
 }
 
 impl<F: Drop> Kept<Formatters<F>> {
-    /// An outlet to which nothing was sent, and which writes as the tellers do. It takes no memory.
-    pub fn new(alloc: Global, tellers: Tellers<F>) -> Kept<Formatters<F>>
-        ensures { result ≡ record { forms = tellers.forms; sent = []; lines = []; missed = 0; ready = false } }
+    /// An outlet to which nothing was sent, and which writes in this formatting. It takes no memory.
+    pub fn new(alloc: Global, formatting: Formatting<F>) -> Kept<Formatters<F>>
+        ensures { result ≡ record { forms = formatting.forms; sent = []; lines = []; missed = 0; ready = false } }
     {
-        let Tellers { forms, formatters } = tellers;
+        let Formatting { forms, formatters } = formatting;
         Kept {
             batches: Vec::new(alloc),
             note_lines: NoteLines {

@@ -14,7 +14,7 @@ use crate::note_lines::{NoteLines, recycle};
 use crate::outlet::Outlet;
 use crate::past::Past;
 use crate::posted::Posted;
-use span_layers::{Formatters, Forms, Note, Say, Tellers};
+use span_layers::{Formatters, Formatting, Forms, Note, Say};
 use std::alloc::{AllocError, Global};
 use std::marker::Model;
 
@@ -58,11 +58,11 @@ impl<V> Model for Latest<V> {
 }
 
 impl<F: Drop> Latest<Formatters<F>> {
-    /// An outlet to which nothing was sent, and which writes as the tellers do. It takes no memory.
-    pub fn new(alloc: Global, tellers: Tellers<F>) -> Latest<Formatters<F>>
-        ensures { result ≡ record { forms = tellers.forms; sent = []; lines = []; missed = 0; ready = false } }
+    /// An outlet to which nothing was sent, and which writes in this formatting. It takes no memory.
+    pub fn new(alloc: Global, formatting: Formatting<F>) -> Latest<Formatters<F>>
+        ensures { result ≡ record { forms = formatting.forms; sent = []; lines = []; missed = 0; ready = false } }
     {
-        let Tellers { forms, formatters } = tellers;
+        let Formatting { forms, formatters } = formatting;
         Latest::with_formatters(alloc, forms, formatters)
     }
 }

@@ -14,7 +14,7 @@ use crate::line::Line;
 use crate::note_lines::NoteLines;
 use crate::ring::{Consuming, Ring, Tap};
 use span_known::KnownValue;
-use span_layers::{Formatters, Note, Say, Tellers};
+use span_layers::{Formatters, Formatting, Note, Say};
 use std::alloc::Global;
 use std::marker::Model;
 
@@ -109,12 +109,12 @@ fn take_until_line<V: Say>(
 }
 
 impl<F: Drop> LineReader<Formatters<F>> {
-    /// A reader that took nothing, and which writes as the tellers do. It takes no memory.
-    pub fn new(alloc: Global, tap: Tap, tellers: Tellers<F>) -> LineReader<Formatters<F>>
+    /// A reader that took nothing, and which writes in this formatting. It takes no memory.
+    pub fn new(alloc: Global, tap: Tap, formatting: Formatting<F>) -> LineReader<Formatters<F>>
         ensures { result ≡ record {
           name = tap;
           looks = 0;
-          forms = tellers.forms;
+          forms = formatting.forms;
           taken = [];
           given = [];
           waiting = [];
@@ -122,7 +122,7 @@ impl<F: Drop> LineReader<Formatters<F>> {
         } }
     {
         let Tap { consumer } = tap;
-        let Tellers { forms, formatters } = tellers;
+        let Formatting { forms, formatters } = formatting;
         LineReader {
             consumer,
             looks: 0,

@@ -6,12 +6,13 @@ use Rattle.std.proofs.lemmas.Bool.{cases_Bool, false≢true}
 use Rattle.std.proofs.lemmas.Bool.Decides.{eqb_tells}
 use Rattle.span_id.specs.Id.{slot_of, IsId}
 use Rattle.span_id.specs.Meta.{KeyValue, PlainMeta}
+use Rattle.span_id.specs.Ids.{has}
 use Rattle.span_layers.specs.Filter.{admission_set}
 use Rattle.span_forest.specs.declared.span.Holder.{Holder}
 use Rattle.span_forest.specs.declared.span.Holder.TheVariants.{Handle, Entry}
 use Rattle.span_forest.specs.Node.{Node, new_node}
 use Rattle.span_forest.specs.Spans.{Spans, find, IsOpen, with_change, with_entry}
-use Rattle.span_forest.specs.Live.{stands_in, is_live}
+use Rattle.span_forest.specs.Live.{is_live}
 use Rattle.span_forest.specs.Holders.{IsHeld, held_in, with_more, with_less}
 use Rattle.span_forest.specs.Keep.{with_holder}
 use Rattle.span_forest.specs.Release.{without_holder, closing_list, spans_left}
@@ -27,7 +28,6 @@ use Rattle.span_core.specs.Core.{CoreView, IsAccepted}
 use Rattle.span_core.proofs.Deciding.{held_from}
 use Rattle.span_core.proofs.Legal.{whole}
 use Rattle.span_core.proofs.Holds.{handles-released_same, handles-released_other, handles-left}
-use Rattle.span_seats.specs.RootView.{among}
 use Rattle.span_seats.specs.OpenSpans.{IsSound, IsAdded, IsCloned, IsReleased}
 use Rattle.span_registry.specs.inside.Seated.{spans_seen}
 
@@ -74,10 +74,6 @@ cloned_of core new worker id accepted =
 
 -- ---- a holder given back
 
-among_is : (x : ℕ) (xs : List ℕ) → among x xs ≡ stands_in x xs
-among_is x [] = refl
-among_is x (y ∷ ys) = ap (λ b. (y == x) || b) (among_is x ys)
-
 is_false : (b : Bool) → (b ≡ true → ⊥) → b ≡ false
 is_false true h = absurd (h refl)
 is_false false h = refl
@@ -87,10 +83,10 @@ left_open spans id holder x o =
     let less = without_holder spans id holder in
     IsOpen-changed (with_less holder) spans id x (subst IsSome (passing_kept (is_live less) less x (kept_passes (is_live less) less x o)) o)
 
-open-left : (spans : Spans) → IsUpheld spans → (id : ℕ) (holder : Holder) (x : ℕ) → is_open (spans_left spans id holder) x ≡ (is_open spans x && not (stands_in x (closing_list spans id holder)))
+open-left : (spans : Spans) → IsUpheld spans → (id : ℕ) (holder : Holder) (x : ℕ) → is_open (spans_left spans id holder) x ≡ (is_open spans x && not (has (closing_list spans id holder) x))
 open-left spans up id holder x =
     elim (cases_Bool (is_open spans x)) [
-      | inl o ↦ rw o (let exact = gone_exactly spans up.forest up.positive id holder x o in elim (cases_Bool (stands_in x (closing_list spans id holder))) [
+      | inl o ↦ rw o (let exact = gone_exactly spans up.forest up.positive id holder x o in elim (cases_Bool (has (closing_list spans id holder) x)) [
         | inl t ↦ rw t (ap is_some (exact.0 t))
         | inr t ↦ rw t (still (find (spans_left spans id holder) x) (λ none. false≢true (sym t ∙ exact.1 none)))
       ])
@@ -122,8 +118,8 @@ released_of spans id up held =
     let closed = closing_list spans id Handle in
     record {
       fewer = λ x. handles-fewer spans id x held;
-      rest = λ x. open-left spans up id Handle x ∙ ap (λ b. is_open spans x && not b) (sym (among_is x closed));
-      were = λ x t. listed_open spans up.forest up.positive id Handle (held_open spans id Handle held) x (sym (among_is x closed) ∙ t);
+      rest = λ x. open-left spans up id Handle x;
+      were = λ x t. listed_open spans up.forest up.positive id Handle (held_open spans id Handle held) x t;
     }
 
 and_all : (b : Bool) → b ≡ (b && not false)
@@ -147,8 +143,8 @@ exited_of spans id up there true = record {
 }
 exited_of spans id up there false = record {
   fewer = λ x. let q = handles-left spans id x in omega (arith, q);
-  rest = λ x. open-left spans up id Entry x ∙ ap (λ b. is_open spans x && not b) (sym (among_is x (closing_list spans id Entry)));
-  were = λ x t. listed_open spans up.forest up.positive id Entry there x (sym (among_is x (closing_list spans id Entry)) ∙ t);
+  rest = λ x. open-left spans up id Entry x;
+  were = λ x t. listed_open spans up.forest up.positive id Entry there x t;
 }
 
 -- ---- a new span

@@ -44,7 +44,7 @@ counts_of report = record {
 
 -- the report counts what this core had; its lines are those of the history, written in these forms, but for the notes
 -- that were missed
-pub record Tells (core : CoreView) (forms : List Form) (report : Report) : Type 0 where
+pub record IsReportOf (core : CoreView) (forms : List Form) (report : Report) : Type 0 where
   pub counts : AreCounts core (counts_of report)
   pub lines : AreKept forms (numbered core.sent) (map plain_line report.lines.items) report.missed
 
@@ -73,7 +73,7 @@ pub record IsEnd
     : Type 0 where
   pub core : CoreView
   pub ended : HasEnded limits rules share core
-  pub told : Tells core forms report
+  pub report_is : IsReportOf core forms report
 
 -- the same where a drain wrote the lines: the core put its batches into the drain's ring, what the drain had taken is
 -- the beginning of the history, and the lines that it had stand first

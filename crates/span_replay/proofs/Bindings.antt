@@ -6,7 +6,7 @@ use Rattle.std.specs.Cmp.Lexicographic.{slice_cmp}
 use Rattle.std.proofs.lemmas.Bool.{cases_Bool, false_from_ne_true, eq-eqb}
 use Rattle.std.proofs.lemmas.Map.Text.{is_eq-slice_cmp}
 use Rattle.std.proofs.lemmas.Slice.Eq.{bytes_eq-Decides}
-use Rattle.span_forest.specs.Live.{stands_in}
+use Rattle.span_id.specs.Ids.{has}
 use Rattle.span_replay.specs.Labels.{Bound, id_in, with_label}
 
 pub same_bytes : (xs : List ℕ) → bytes_eq xs xs ≡ true
@@ -48,7 +48,7 @@ bound_other (e ∷ es) label other id apart = by_case (ap (λ more. if bytes_eq 
     by_case rest Greater is = rest
 
 -- an id that a label names is among those that the labels name
-pub id_listed : (labels : Bound) (label : List ℕ) (id : ℕ) → id_in labels label ≡ Some id → stands_in id (map (λ entry. entry.1) labels) ≡ true
+pub id_listed : (labels : Bound) (label : List ℕ) (id : ℕ) → id_in labels label ≡ Some id → has (map (λ entry. entry.1) labels) id ≡ true
 id_listed [] label id named = cc
 id_listed (e ∷ es) label id named =
     elim (cases_Bool (bytes_eq label e.0)) [

@@ -2,10 +2,10 @@
 use Rattle.std.proofs.Common.{◌≡◌, ℕ, zero, suc, ◌-◌, ◌^◌, ◌<◌, ◌≤◌, true, List, [], ◌∷◌, length, map, replicate, refl, sym, ap, ◌∙◌, subst, inl, inr, arith}
 use Rattle.std.proofs.lemmas.Bool.{cases_lt, false≢true, lt-ltb}
 use Rattle.std.proofs.lemmas.Bool.Decides.{eqb_tells}
+use Rattle.span_id.specs.Ids.{has}
 use Rattle.span_forest.specs.declared.span.Holder.{Holder}
 use Rattle.span_forest.specs.declared.span.Holder.TheVariants.{Handle, Entry}
 use Rattle.span_forest.specs.Spans.{find}
-use Rattle.span_forest.specs.Live.{stands_in}
 use Rattle.span_forest.specs.Holders.{IsHeld, held_in}
 use Rattle.span_forest.proofs.Upheld.{empty_from_no_holder}
 use Rattle.span_core.specs.World.{workers_inside}
@@ -75,7 +75,7 @@ span_closes (suc n) core labels id tracked low light is =
 
 -- all spans of a list of ids are closed
 spans_close : (ids : List ℕ) (core : CoreView) (labels : Bound) → IsTracked core labels → 0 < core.limits.workers → weight core < 2 ^ 64 - 1
-    → Closes core labels (each_written closes core ids).core × ((j : ℕ) → stands_in j ids ≡ true → handles (each_written closes core ids).core j ≡ 0)
+    → Closes core labels (each_written closes core ids).core × ((j : ℕ) → has ids j ≡ true → handles (each_written closes core ids).core j ≡ 0)
 unfolding each_written
 spans_close [] core labels tracked low light = (closes_nowhere core labels tracked, λ j there. absurd (false≢true there))
 spans_close (id ∷ ids) core labels tracked low light =
@@ -102,7 +102,7 @@ nothing_open state tracked low light = empty_from_no_holder last.world.spans ste
     left : HasLeft state.core state.labels mid
     left = all_leave state.core state.labels tracked light
 
-    closed : Closes mid state.labels last × ((j : ℕ) → stands_in j (map (λ entry. entry.1) state.labels) ≡ true → handles last j ≡ 0)
+    closed : Closes mid state.labels last × ((j : ℕ) → has (map (λ entry. entry.1) state.labels) j ≡ true → handles last j ≡ 0)
     closed =
         spans_close (map (λ entry. entry.1) state.labels) mid state.labels left.leads.tracked
         (still_some state.core mid state.labels left.leads low) (still_light state.core mid state.labels left.leads light)

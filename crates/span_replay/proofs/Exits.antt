@@ -7,10 +7,10 @@ use Rattle.std.proofs.lemmas.Bool.Decides.{eqb_tells}
 use Rattle.std.proofs.lemmas.List.{get_or-set_same, get_or-set_other, get_or_past, reverse-append, reverse-reverse, append-nil}
 use Rattle.std.proofs.lemmas.List.Folds.{list_any-append}
 use Rattle.std.proofs.lemmas.List.Sums.{sum_by-cons}
+use Rattle.span_id.specs.Ids.{has}
 use Rattle.span_forest.specs.declared.span.Holder.TheVariants.{Entry}
 use Rattle.span_forest.specs.Spans.{IsOpen}
-use Rattle.span_forest.specs.Live.{stands_in}
-use Rattle.span_stack.specs.Stack.{has, without_last}
+use Rattle.span_stack.specs.Stack.{without_last}
 use Rattle.span_stack.proofs.Stacks.{without_last-at}
 use Rattle.span_core.specs.World.{stack_of, workers_inside}
 use Rattle.span_outlet.specs.Request as call
@@ -90,10 +90,10 @@ worker_leaves (id ∷ ids) core labels worker tracked low light is =
 -- these workers leave all that they have entered
 record AllLeave (core : CoreView) (labels : Bound) (workers : List ℕ) (new : CoreView) : Type 0 where
   leads : Leads core new labels 0
-  emptied : (j : ℕ) → stands_in j workers ≡ true → stack_of new.world j ≡ []
+  emptied : (j : ℕ) → has workers j ≡ true → stack_of new.world j ≡ []
   stays : (j : ℕ) → stack_of core.world j ≡ [] → stack_of new.world j ≡ []
 
-workers_leave : (workers : List ℕ) (core : CoreView) (labels : Bound) → IsTracked core labels → ((j : ℕ) → stands_in j workers ≡ true → j < core.limits.workers) → weight core < 2 ^ 64 - 1
+workers_leave : (workers : List ℕ) (core : CoreView) (labels : Bound) → IsTracked core labels → ((j : ℕ) → has workers j ≡ true → j < core.limits.workers) → weight core < 2 ^ 64 - 1
     → AllLeave core labels workers (each_written exits core workers).core
 unfolding each_written
 workers_leave [] core labels tracked low light = record { leads = leads_nowhere core labels 0 tracked; emptied = λ j there. absurd (false≢true there); stays = λ j is. is }
@@ -117,11 +117,11 @@ workers_leave (worker ∷ workers) core labels tracked low light =
     kept : (j : ℕ) → stack_of core.world j ≡ [] → stack_of mid.world j ≡ []
     kept j is = elim (eqb_tells j worker) [ inl t ↦ subst (λ (k : ℕ). stack_of mid.world k ≡ []) (sym t.1) first.emptied | inr t ↦ first.others j t.1 ∙ is ]
 
-    still_low : (j : ℕ) → stands_in j workers ≡ true → j < mid.limits.workers
+    still_low : (j : ℕ) → has workers j ≡ true → j < mid.limits.workers
     still_low j there = let same = ap (λ limits. limits.workers) first.leads.limits in let lower = low j (rw there (or_true (worker == j))) in omega (arith, lower, same)
 
 -- the numbers of a range
-range_low : (from n j : ℕ) → stands_in j (range_with_len from n) ≡ true → j < from + n
+range_low : (from n j : ℕ) → has (range_with_len from n) j ≡ true → j < from + n
 range_low from zero j there = cc
 range_low from (suc n) j there =
     elim (eqb_tells from j) [
@@ -129,7 +129,7 @@ range_low from (suc n) j there =
       | inr t ↦ (let rest = range_low (from + 1) n j (rw t.0 at there) in omega (arith, rest))
     ]
 
-in_range : (from n j : ℕ) → from ≤ j → j < from + n → stands_in j (range_with_len from n) ≡ true
+in_range : (from n j : ℕ) → from ≤ j → j < from + n → has (range_with_len from n) j ≡ true
 in_range from zero j high low = absurd (omega (arith, high, low))
 in_range from (suc n) j high low =
     elim (eqb_tells from j) [

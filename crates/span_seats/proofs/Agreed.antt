@@ -4,9 +4,10 @@ use Rattle.std.specs.Prelude.{if◌then◌else◌, ◌==◌}
 use Rattle.std.proofs.lemmas.Bool.{eqb-true}
 use Rattle.std.proofs.lemmas.Bool.Decides.{nat_tests}
 use Rattle.span_id.specs.Id.{id_of, slot_of, generation_of}
+use Rattle.span_id.specs.Ids.{has}
 use Rattle.span_seats.specs.declared.view.HandleView.{HandleView}
 use Rattle.span_seats.specs.declared.view.RootView.{RootView}
-use Rattle.span_seats.specs.RootView.{among, handle_count, has_number, without, IsOpenIn, HasNoHandle, MayClose, empty_table, stored, with_number, without_number, closed_words}
+use Rattle.span_seats.specs.RootView.{handle_count, has_number, without, IsOpenIn, HasNoHandle, MayClose, empty_table, stored, with_number, without_number, closed_words}
 use Rattle.span_seats.specs.OpenSpans.{OpenSpans, IsSound, IsAdded, IsCloned, IsReleased, Agree}
 use Rattle.span_seats.proofs.Numbers.{number_counts, count_without}
 use Rattle.span_seats.proofs.Closing.{length-closed, closed_else, closed_zero}
@@ -82,12 +83,12 @@ gone a b false e f g = absurd (g (e ∙ grind arith))
 -- the spans that a release closes, where the sets are already those after it
 module _ (with_handle : Bool) (id : ℕ) (closed : List ℕ) (before after : OpenSpans) (sound : IsSound before) (still_sound : IsSound after) (released : IsReleased with_handle id closed before after) (slots : ℕ) (r r₁ : RootView)
     (a : Agree r slots before) (counted : (x : ℕ) → handle_count x r₁.handles ≡ after.handles x) (same : r₁.words ≡ r.words) where
-  was_open : (x : ℕ) → after.is_open x ≡ true → (before.is_open x ≡ true) × (among x closed ≡ false)
-  was_open x is = both_of (before.is_open x) (among x closed) (sym (released.rest x) ∙ is)
+  was_open : (x : ℕ) → after.is_open x ≡ true → (before.is_open x ≡ true) × (has closed x ≡ false)
+  was_open x is = both_of (before.is_open x) (has closed x) (sym (released.rest x) ∙ is)
 
   -- an open id with the slot of one that closes is that one, and so it closes
-  one_of_slot : (x y : ℕ) → among x closed ≡ true → before.is_open y ≡ true → slot_of x ≡ slot_of y → among y closed ≡ true
-  one_of_slot x y in_closed is e = subst (λ (z : ℕ). among z closed ≡ true) (sound.alone x y (released.were x in_closed) is e) in_closed
+  one_of_slot : (x y : ℕ) → has closed x ≡ true → before.is_open y ≡ true → slot_of x ≡ slot_of y → has closed y ≡ true
+  one_of_slot x y in_closed is e = subst (λ (z : ℕ). has closed z ≡ true) (sound.alone x y (released.were x in_closed) is e) in_closed
 
   -- no id of a closed span's slot has a handle
   pub may_close : MayClose r₁ closed
@@ -113,7 +114,7 @@ module _ (with_handle : Bool) (id : ℕ) (closed : List ℕ) (before after : Ope
                   ∙ (closed_else r.words closed (slot_of x) (λ y in_closed e. true≢false (sym (one_of_slot y x in_closed was.0 e) ∙ was.1)) ∙ old.1),
             );
         vacant = λ s none. ap (λ ws. get_or ws s 0) words
-            ∙ closed_zero r.words closed s (λ far. a.vacant s (λ y is e. far y (gone (after.is_open y) (before.is_open y) (among y closed) (released.rest y) is (λ still. none y still e)) e));
+            ∙ closed_zero r.words closed s (λ far. a.vacant s (λ y is e. far y (gone (after.is_open y) (before.is_open y) (has closed y) (released.rest y) is (λ still. none y still e)) e));
       }
 
 either_true : (a b : Bool) → (a || b) ≡ true → (a ≡ true) ⊎ (b ≡ true)

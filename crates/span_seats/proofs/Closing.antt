@@ -6,17 +6,18 @@ use Rattle.std.proofs.lemmas.List.{take_more}
 use Rattle.std.proofs.lemmas.Grind.{get_or_default_zero}
 use Rattle.std.proofs.lemmas.Bool.Decides.{nat_tests}
 use Rattle.span_id.specs.Id.{slot_of}
+use Rattle.span_id.specs.Ids.{has}
 use Rattle.span_seats.specs.declared.view.RootView.{RootView}
-use Rattle.span_seats.specs.RootView.{among, stored, closed_words}
+use Rattle.span_seats.specs.RootView.{stored, closed_words}
 
-among_at : (ids : List ℕ) (k : ℕ) → k < length ids → among (get_or ids k 0) ids ≡ true
-among_at [] k h = absurd (omega arith)
-among_at (x ∷ xs) zero h = grind (arith, nat_tests)
-among_at (x ∷ xs) (suc k) h = let r = among_at xs k (omega arith) in grind (arith, nat_tests)
+has_at : (ids : List ℕ) (k : ℕ) → k < length ids → has ids (get_or ids k 0) ≡ true
+has_at [] k h = absurd (omega arith)
+has_at (x ∷ xs) zero h = grind (arith, nat_tests)
+has_at (x ∷ xs) (suc k) h = let r = has_at xs k (omega arith) in grind (arith, nat_tests)
 
 -- the item of a loop over the ids is one of them
-pub among_item : (ids : List ℕ) (k x : ℕ) → k < length ids → x ≡ get_or ids k x → among x ids ≡ true
-among_item ids k x h is = subst (λ (y : ℕ). among y ids ≡ true) (sym (is ∙ get_or_default_zero ids k x h)) (among_at ids k h)
+pub has_item : (ids : List ℕ) (k x : ℕ) → k < length ids → x ≡ get_or ids k x → has ids x ≡ true
+has_item ids k x h is = subst (λ (y : ℕ). has ids y ≡ true) (sym (is ∙ get_or_default_zero ids k x h)) (has_at ids k h)
 
 closed_snoc : (words ids : List ℕ) (id : ℕ) → closed_words words (ids ++ id ∷ []) ≡ set (closed_words words ids) (slot_of id) 0
 closed_snoc words [] id = refl
@@ -46,7 +47,7 @@ length-closed words [] = refl
 length-closed words (x ∷ xs) = length-closed (set words (slot_of x) 0) xs ∙ length-set words (slot_of x) 0
 
 -- the word of a slot that none of these ids has
-pub closed_else : (words ids : List ℕ) (s : ℕ) → ((id : ℕ) → among id ids ≡ true → slot_of id ≢ s) → get_or (closed_words words ids) s 0 ≡ get_or words s 0
+pub closed_else : (words ids : List ℕ) (s : ℕ) → ((id : ℕ) → has ids id ≡ true → slot_of id ≢ s) → get_or (closed_words words ids) s 0 ≡ get_or words s 0
 closed_else words [] s none = refl
 closed_else words (x ∷ xs) s none =
     let ne : s ≢ slot_of x = λ e. none x (grind (arith, nat_tests)) (sym e) in
@@ -58,11 +59,11 @@ set_zero (x ∷ xs) zero = refl
 set_zero (x ∷ xs) (suc i) = set_zero xs i
 
 -- the word of a slot is 0 where it was, and where one of these ids has the slot
-pub closed_zero : (words ids : List ℕ) (s : ℕ) → (((id : ℕ) → among id ids ≡ true → slot_of id ≢ s) → get_or words s 0 ≡ 0) → get_or (closed_words words ids) s 0 ≡ 0
+pub closed_zero : (words ids : List ℕ) (s : ℕ) → (((id : ℕ) → has ids id ≡ true → slot_of id ≢ s) → get_or words s 0 ≡ 0) → get_or (closed_words words ids) s 0 ≡ 0
 closed_zero words [] s h = h (λ id e. absurd (true≢false (sym e)))
 closed_zero words (x ∷ xs) s h = closed_zero (set words (slot_of x) 0) xs s (λ none. dite (ℕ_discrete (slot_of x) s)
     (λ e. subst (λ (i : ℕ). get_or (set words i 0) s 0 ≡ 0) (sym e) (set_zero words s))
     (λ ne. let far : s ≢ slot_of x = λ q. ne (sym q) in rw get_or-set_other (h (λ id e. one id e none ne))))
   where
-    one : (id : ℕ) → among id (x ∷ xs) ≡ true → ((id : ℕ) → among id xs ≡ true → slot_of id ≢ s) → slot_of x ≢ s → slot_of id ≢ s
+    one : (id : ℕ) → has (x ∷ xs) id ≡ true → ((id : ℕ) → has xs id ≡ true → slot_of id ≢ s) → slot_of x ≢ s → slot_of id ≢ s
     one id e none ne q = dite (ℕ_discrete x id) (λ is. ne (ap slot_of is ∙ q)) (λ is. none id (grind (arith, nat_tests)) q)

@@ -6,7 +6,7 @@ use Rattle.std.proofs.lemmas.Bool.Decides.{nat_tests}
 use Rattle.span_seats.specs.declared.view.HandleView.{HandleView}
 use Rattle.span_seats.specs.declared.view.RootView.{RootView}
 use Rattle.span_seats.specs.declared.view.SeatView.{SeatView}
-use Rattle.span_seats.specs.RootView.{among, empty_table, IsOpenIn, has_number, handle_count, stored, with_number, without_number, closed_words}
+use Rattle.span_seats.specs.RootView.{empty_table, IsOpenIn, has_number, handle_count, stored, with_number, without_number, closed_words}
 use Rattle.span_seats.specs.inside.WellFormed.{times_given}
 use Rattle.span_seats.specs.inside.SeatView.{first_view, handle_seat, root_after_split, handle_of_split, root_after_join}
 use Rattle.span_seats.specs.OpenSpans.{OpenSpans, IsSound, IsAdded, IsCloned, IsReleased, Agree}
@@ -71,12 +71,6 @@ not_found = refl
 
 closed_slots : closed_words (1 ∷ 1 ∷ 3 ∷ []) (3 ∷ 1 ∷ []) ≡ 0 ∷ 1 ∷ 0 ∷ []
 closed_slots = refl
-
-one_among : among 3 (3 ∷ 1 ∷ []) ≡ true
-one_among = refl
-
-none_among : among 2 (3 ∷ 1 ∷ []) ≡ false
-none_among = refl
 
 -- a core in which no span is open, and one in which 2 alone is, with so many handles
 abbrev none_open : OpenSpans

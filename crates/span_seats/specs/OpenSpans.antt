@@ -2,8 +2,9 @@
 use Rattle.std.specs.Prelude.{◌≡◌, ◌≢◌, ℕ, ◌+◌, ◌<◌, List, length, slice_index}
 use Rattle.std.specs.Prelude.{Bool, true, not, ◌&&◌, ◌||◌, if◌then◌else◌, ◌==◌}
 use Rattle.span_id.specs.Id.{slot_of}
+use Rattle.span_id.specs.Ids.{has}
 use Rattle.span_seats.specs.declared.view.RootView.{RootView}
-use Rattle.span_seats.specs.RootView.{handle_count, among, IsOpenIn}
+use Rattle.span_seats.specs.RootView.{handle_count, IsOpenIn}
 
 -- which ids are open, and how many handles each has
 pub record OpenSpans : Type 0 where
@@ -32,8 +33,8 @@ pub record IsCloned (id : ℕ) (before after : OpenSpans) : Type 0 where
 -- a holder of the id is given back, a handle where `with_handle` is true, and these ids are closed
 pub record IsReleased (with_handle : Bool) (id : ℕ) (closed : List ℕ) (before after : OpenSpans) : Type 0 where
   pub fewer : (x : ℕ) → before.handles x ≡ (if with_handle && (id == x) then 1 else 0) + after.handles x
-  pub rest : (x : ℕ) → after.is_open x ≡ (before.is_open x && not (among x closed))
-  pub were : (x : ℕ) → among x closed ≡ true → before.is_open x ≡ true
+  pub rest : (x : ℕ) → after.is_open x ≡ (before.is_open x && not (has closed x))
+  pub were : (x : ℕ) → has closed x ≡ true → before.is_open x ≡ true
 
 -- the root and a core of so many slots agree
 pub record Agree (root : RootView) (slots : ℕ) (spans : OpenSpans) : Type 0 where

@@ -2,6 +2,7 @@
 use Rattle.std.specs.Prelude.{◌≡◌, ◌≢◌, ℕ, ◌+◌, ◌-◌, ◌<◌, List, [], ◌∷◌, length, replicate, slice_index, slice_set}
 use Rattle.std.specs.Prelude.{Bool, true, false, ◌&&◌, ◌||◌, if◌then◌else◌, ◌==◌}
 use Rattle.span_id.specs.Id.{id_of, slot_of, generation_of}
+use Rattle.span_id.specs.Ids.{has}
 use Rattle.span_seats.specs.declared.view.HandleView.{HandleView}
 use Rattle.span_seats.specs.declared.view.RootView.{RootView}
 
@@ -46,15 +47,10 @@ with_number root =
 abbrev pub without_number : RootView → ℕ → ℕ → RootView
 without_number root id number = record root { handles = without id number root.handles; split_id = id }
 
--- the id is among these
-abbrev pub among : ℕ → List ℕ → Bool
-among id [] = false
-among id (x ∷ xs) = (x == id) || among id xs
-
 -- the slots of these ids are there, and no id of them has a handle
 abbrev pub MayClose : RootView → List ℕ → Type 0
 MayClose root ids =
-    (id : ℕ) → among id ids ≡ true → (slot_of id < length root.words) × HasNoHandle root.handles (slot_of id)
+    (id : ℕ) → has ids id ≡ true → (slot_of id < length root.words) × HasNoHandle root.handles (slot_of id)
 
 -- the marks after those of these ids are set to 0
 abbrev pub closed_words : List ℕ → List ℕ → List ℕ

@@ -6,8 +6,9 @@ use Rattle.std.proofs.lemmas.List.{map-append, reverse-append, length-reverse, t
 use Rattle.std.proofs.lemmas.Slice.{between_is}
 use Rattle.std.proofs.lemmas.List.Elements.{filter-append, filter_agree}
 use Rattle.std.proofs.lemmas.List.Folds.{list_any-append}
+use Rattle.span_id.specs.Ids.{has}
 use Rattle.span_stack.specs.declared.entry.Entry.{Entry}
-use Rattle.span_stack.specs.Stack.{has, first_places, distinct_from_top}
+use Rattle.span_stack.specs.Stack.{first_places, distinct_from_top}
 use Rattle.span_stack.specs.inside.Entry.{ids_of, AreFlagged, unflagged}
 use Rattle.span_stack.proofs.Stacks.{by_cases, or_true, eqb-sym, is_other, filter-filter}
 

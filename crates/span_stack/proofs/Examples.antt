@@ -1,6 +1,6 @@
 -- Worked cases of the definitions, computed from them alone.
-use Rattle.std.proofs.Common.{◌≡◌, refl, true, false, [], ◌∷◌, Some, None}
-use Rattle.span_stack.specs.Stack.{has, first_places, distinct_from_top, current, top, without_last}
+use Rattle.std.proofs.Common.{◌≡◌, refl, [], ◌∷◌, Some, None}
+use Rattle.span_stack.specs.Stack.{first_places, distinct_from_top, current, top, without_last}
 
 -- after entering 1, 2 and 1 again the current span is 2, and the topmost entry is 1
 re_entered : first_places (1 ∷ 2 ∷ 1 ∷ []) ≡ 1 ∷ 2 ∷ []
@@ -29,12 +29,6 @@ current_between = refl
 -- leaving what isn't there changes nothing
 left_absent : without_last (1 ∷ 2 ∷ 1 ∷ []) 3 ≡ 1 ∷ 2 ∷ 1 ∷ []
 left_absent = refl
-
-stands : has (1 ∷ 2 ∷ 1 ∷ []) 2 ≡ true
-stands = refl
-
-stands_not : has (1 ∷ 2 ∷ 1 ∷ []) 3 ≡ false
-stands_not = refl
 
 -- three entries of one span are one and its duplicates
 thrice : distinct_from_top (5 ∷ 5 ∷ 4 ∷ 5 ∷ []) ≡ 4 ∷ 5 ∷ []

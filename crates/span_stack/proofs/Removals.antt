@@ -1,8 +1,9 @@
 -- What stays once the topmost entry of an id is taken out.
 use Rattle.std.proofs.Common.{◌≡◌, ℕ, false, not, ◌||◌, List, [], ◌∷◌, ◌++◌, length, get_or, refl, sym, ap, subst, ◌∙◌}
 use Rattle.std.specs.List.{remove}
+use Rattle.span_id.specs.Ids.{has}
 use Rattle.span_stack.specs.declared.entry.Entry.{Entry}
-use Rattle.span_stack.specs.Stack.{has, without_last}
+use Rattle.span_stack.specs.Stack.{without_last}
 use Rattle.span_stack.specs.inside.Entry.{ids_of, AreFlagged, IsLastPlace}
 use Rattle.span_stack.proofs.Stacks.{without_last-at}
 use Rattle.span_stack.proofs.Entries.{ids_of-append, has-append, AreFlagged-without, AreFlagged-at}

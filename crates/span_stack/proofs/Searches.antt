@@ -7,8 +7,8 @@ use Rattle.std.specs.Iterator.{Yields, YieldsThen, YieldsFirst, MakesProgress, i
 use Rattle.std.specs.Slice.Iter.{iter_rest, iter_steps_back}
 use Rattle.std.proofs.lemmas.Bool.{eqb-true, not-true, not-false}
 use Rattle.std.proofs.lemmas.List.{append-nil, length-append, nil_from_length}
+use Rattle.span_id.specs.Ids.{has}
 use Rattle.span_stack.specs.declared.entry.Entry.{Entry}
-use Rattle.span_stack.specs.Stack.{has}
 use Rattle.span_stack.specs.inside.Entry.{ids_of, unflagged, IsLastPlace}
 use Rattle.span_stack.proofs.Entries.{ids_of-append, has-append, or_false, unflagged-push}
 

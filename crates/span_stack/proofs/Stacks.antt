@@ -8,7 +8,8 @@ use Rattle.std.proofs.lemmas.List.{append-nil, length-reverse}
 use Rattle.std.proofs.lemmas.List.Elements.{filter-append, filter_agree}
 use Rattle.std.proofs.lemmas.List.Folds.{list_any-append}
 use Rattle.std.proofs.lemmas.Map.Views.{any-filter_same}
-use Rattle.span_stack.specs.Stack.{has, first_places, distinct_from_top, current, top, without_last, TakesLast}
+use Rattle.span_id.specs.Ids.{has}
+use Rattle.span_stack.specs.Stack.{first_places, distinct_from_top, current, top, without_last, TakesLast}
 
 -- the test that `first_places` makes: another id than this
 abbrev pub is_other : ℕ → ℕ → Bool

@@ -1,16 +1,12 @@
 -- A stack of entered spans, as a list of their ids, the topmost last.
-use Rattle.std.specs.Prelude.{◌≡◌, ℕ, Bool, false, not, ◌==◌, if◌then◌else◌, List, [], ◌∷◌, ◌++◌, reverse, map, filter, Option, slice_get}
-use Rattle.std.specs.List.{list_any}
+use Rattle.std.specs.Prelude.{◌≡◌, ℕ, false, not, ◌==◌, if◌then◌else◌, List, [], ◌∷◌, ◌++◌, reverse, map, filter, Option, slice_get}
+use Rattle.span_id.specs.Ids.{has}
 
 -- what a contract sees of a `SpanStack`: the ids of its entries, the topmost last,
 -- and how many more entries it takes with no further memory
 pub record Stack : Type 0 where
   pub ids : List ℕ
   pub room : ℕ
-
--- whether an id stands in the stack
-abbrev pub has : List ℕ → ℕ → Bool
-has ids id = list_any (λ entry. entry == id) ids
 
 -- The ids in the order of their first places. An entry is no duplicate if it stands at the first
 -- place of its id, so these are the entries that are no duplicates: the lowest entry, then those

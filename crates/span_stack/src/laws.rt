@@ -1,7 +1,8 @@
 //! Promises that follow from the definitions, each as the contract of a function that does nothing.
 
 ghost use Rattle.std.specs.Prelude.{◌≡◌, ℕ, List, [], ◌∷◌, ◌++◌, Some, true, false, not, ◌==◌, if◌then◌else◌, length, filter};
-ghost use Rattle.span_stack.specs.Stack.{has, first_places, current, top, without_last, TakesLast};
+ghost use Rattle.span_id.specs.Ids.{has};
+ghost use Rattle.span_stack.specs.Stack.{first_places, current, top, without_last, TakesLast};
 
 /// Among the entries that are no duplicates, an id stands once if it stands in the stack, else not at all.
 pub fn an_id_has_one_first_place()

@@ -2,6 +2,7 @@ ghost use Rattle.std.specs.Prelude.{◌≡◌, ℕ, ◌+◌, ◌^◌, ◌<◌, �
 ghost use Rattle.std.specs.Iterator.{YieldsFirst};
 ghost use Rattle.std.specs.Iterator.Runs.{YieldsInOrder};
 ghost use Rattle.span_stack.specs.inside.Entry.{ids_of, IsLastPlace};
+ghost use Rattle.span_id.specs.Ids as lists;
 ghost use Rattle.span_stack.specs.Stack as words;
 
 use crate::entry::Entry;
@@ -67,7 +68,7 @@ impl SpanStack {
     pub fn push(&mut self, id: Id) -> bool
         requires { 0 < self.old.room }
         ensures ids { self.new.ids ≡ self.old.ids ++ id ∷ [] }
-        ensures no_duplicate { result ≡ not (words.has self.old.ids id) }
+        ensures no_duplicate { result ≡ not (lists.has self.old.ids id) }
         ensures room { self.new.room + 1 ≡ self.old.room }
     {
         let duplicate = self.has(id);
@@ -80,7 +81,7 @@ impl SpanStack {
     /// It looks at no entry, and takes no memory: the room was made by `new` or `reserve`.
     pub fn push_new(&mut self, id: Id)
         requires room { 0 < self.old.room }
-        requires absent { words.has self.old.ids id ≡ false }
+        requires absent { lists.has self.old.ids id ≡ false }
         ensures ids { self.new.ids ≡ self.old.ids ++ id ∷ [] }
         ensures room { self.new.room + 1 ≡ self.old.room }
     {
@@ -92,7 +93,7 @@ impl SpanStack {
     /// It looks at no entry, and takes no memory: the room was made by `new` or `reserve`.
     pub fn push_again(&mut self, id: Id)
         requires room { 0 < self.old.room }
-        requires stands { words.has self.old.ids id ≡ true }
+        requires stands { lists.has self.old.ids id ≡ true }
         ensures ids { self.new.ids ≡ self.old.ids ++ id ∷ [] }
         ensures room { self.new.room + 1 ≡ self.old.room }
     {
@@ -102,7 +103,7 @@ impl SpanStack {
     // Puts an entry on top, where it is known whether it is a duplicate.
     fn put(&mut self, id: Id, duplicate: bool)
         requires room { 0 < self.old.room }
-        requires flagged { duplicate ≡ words.has self.old.ids id }
+        requires flagged { duplicate ≡ lists.has self.old.ids id }
         ensures ids { self.new.ids ≡ self.old.ids ++ id ∷ [] }
         ensures room { self.new.room + 1 ≡ self.old.room }
     {
@@ -113,11 +114,11 @@ impl SpanStack {
     ///
     /// It answers `None`, and changes nothing, where the span doesn't stand in the stack.
     pub fn pop(&mut self, id: Id) -> Option<bool>
-        ensures found { is_some result ≡ words.has self.old.ids id }
+        ensures found { is_some result ≡ lists.has self.old.ids id }
         ensures ids { self.new.ids ≡ words.without_last self.old.ids id }
 
         // The entry taken out stood at the first place of its id exactly if the id is gone now.
-        ensures no_duplicate { IfSome result (λ first. first ≡ not (words.has self.new.ids id)) }
+        ensures no_duplicate { IfSome result (λ first. first ≡ not (lists.has self.new.ids id)) }
         ensures room { OnSome result (self.new.room ≡ self.old.room + 1) }
         ensures absent { IfNone result (self.new ≡ self.old) }
     {
@@ -130,9 +131,9 @@ impl SpanStack {
     ///
     /// It looks at the entries from the top down to that one, and takes no memory.
     pub fn would_pop(&self, id: Id) -> Option<bool>
-        ensures found { is_some result ≡ words.has self.now.ids id }
+        ensures found { is_some result ≡ lists.has self.now.ids id }
         ensures no_duplicate { IfSome result (λ first. first
-            ≡ not (words.has (words.without_last self.now.ids id) id)) }
+            ≡ not (lists.has (words.without_last self.now.ids id) id)) }
     {
         let entries = self.entries.as_slice();
         let place = last_place(entries, id)?;
@@ -192,7 +193,7 @@ impl SpanStack {
 
     /// Whether the span stands in the stack.
     pub fn has(&self, id: Id) -> bool
-        ensures { result ≡ words.has self.now.ids id }
+        ensures { result ≡ lists.has self.now.ids id }
     {
         self.entries.as_slice().iter().any(|entry| entry.id == id)
     }
@@ -201,7 +202,7 @@ impl SpanStack {
     ///
     /// It looks at each entry at most once, and takes no memory.
     pub fn stands_once(&self, id: Id) -> bool
-        ensures { result ≡ (words.has self.now.ids id && not (words.has (words.without_last self.now.ids id) id)) }
+        ensures { result ≡ (lists.has self.now.ids id && not (lists.has (words.without_last self.now.ids id) id)) }
     {
         self.would_pop(id).unwrap_or(false)
     }
@@ -223,7 +224,7 @@ impl SpanStack {
 
 // The place of the topmost entry of the span, if there is one.
 fn last_place(entries: &[Entry], id: Id) -> Option<usize>
-    ensures { MatchOption result (words.has (ids_of entries.now) id ≡ false) (IsLastPlace entries.now id) }
+    ensures { MatchOption result (lists.has (ids_of entries.now) id ≡ false) (IsLastPlace entries.now id) }
 {
     entries.iter().rposition(|entry| entry.id == id)
 }

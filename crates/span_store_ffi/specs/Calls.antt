@@ -61,28 +61,28 @@ found_there store id span = record {
 }
 
 -- what is told of a span where it is there, and else that it is unknown; nothing changes
-abbrev pub TellsSpan : ℕ → SpanStoreFound → StoreView → Status → StoreView → Type 0
-TellsSpan id found old Done new =
+abbrev pub AnswersSpan : ℕ → SpanStoreFound → StoreView → Status → StoreView → Type 0
+AnswersSpan id found old Done new =
     IsSomeAnd (find old.table.entries id) (λ span. found ≡ found_there old id span) × (new ≡ old)
-TellsSpan id found old (Refused Unknown) new = (find old.table.entries id ≡ None) × (new ≡ old)
-TellsSpan id found old _ new = ⊥
+AnswersSpan id found old (Refused Unknown) new = (find old.table.entries id ≡ None) × (new ≡ old)
+AnswersSpan id found old _ new = ⊥
 
 -- the slot at which a walk goes on after an id; after 0 it begins
 abbrev pub slot_past : ℕ → ℕ
 slot_past number = cond (number == 0) 0 (slot_of number + 1)
 
 -- the next id that is there, by slots, or 0 where none is; a number that is no id is refused
-abbrev pub TellsNext : ℕ → ℕ → StoreView → Status → StoreView → Type 0
-TellsNext previous id old Done new =
+abbrev pub AnswersNext : ℕ → ℕ → StoreView → Status → StoreView → Type 0
+AnswersNext previous id old Done new =
     ((previous ≡ 0) ⊎ IsId previous) × (id ≡ id_number (id_from old.table.entries (slot_past previous))) × (new ≡ old)
-TellsNext previous id old (Refused Unknown) new = (previous ≢ 0) × (IsId previous → ⊥) × (new ≡ old)
-TellsNext previous id old _ new = ⊥
+AnswersNext previous id old (Refused Unknown) new = (previous ≢ 0) × (IsId previous → ⊥) × (new ≡ old)
+AnswersNext previous id old _ new = ⊥
 
 -- how many handles and how many spans there are
-abbrev pub TellsCounts : SpanStoreCounts → StoreView → Status → StoreView → Type 0
-TellsCounts counts old Done new =
+abbrev pub AnswersCounts : SpanStoreCounts → StoreView → Status → StoreView → Type 0
+AnswersCounts counts old Done new =
     (counts ≡ record { handles = all_handles old.table.entries; spans = length old.table.entries }) × (new ≡ old)
-TellsCounts counts old _ new = ⊥
+AnswersCounts counts old _ new = ⊥
 
 -- the limits of a store
 abbrev pub store_limits : ℕ → ℕ → ℕ → Limits

@@ -22,7 +22,7 @@ details_as details = record {
 }
 
 -- What is known of all spans that are there goes into a buffer, or memory is refused; nothing changes.
-abbrev pub TellsDetails : List SpanStoreDetails → List SpanStoreDetails → ℕ → StoreView → Status → StoreView → Type 0
-TellsDetails into into' len old (Refused Memory) new = new ≡ old
-TellsDetails into into' len old status new =
+abbrev pub AnswersDetails : List SpanStoreDetails → List SpanStoreDetails → ℕ → StoreView → Status → StoreView → Type 0
+AnswersDetails into into' len old (Refused Memory) new = new ≡ old
+AnswersDetails into into' len old status new =
     WritesAll (map details_as (all_details old.table.entries)) into status into' len × (new ≡ old)

@@ -4,7 +4,7 @@ ghost use Rattle.span_slots.specs.Table.{find};
 ghost use Rattle.span_store.specs.StoredSpans.{is_closing};
 ghost use Rattle.span_border.specs.Status.{meant};
 ghost use Rattle.span_border.specs.Ends.{OnHeld, Keeps};
-ghost use Rattle.span_store_ffi.specs.Calls.{Adds, KeepsSpan, ReleasesSpan, EndsSpan, TellsSpan, TellsNext, TellsCounts, OpensStore, parent_numbered, store_limits, empty_store, WhyNotOpened, store_abi_version};
+ghost use Rattle.span_store_ffi.specs.Calls.{Adds, KeepsSpan, ReleasesSpan, EndsSpan, AnswersSpan, AnswersNext, AnswersCounts, OpensStore, parent_numbered, store_limits, empty_store, WhyNotOpened, store_abi_version};
 
 mod details;
 
@@ -225,7 +225,7 @@ pub extern "C" fn span_store_ended(
 }
 
 fn find(store: &Store, id: u64, found: &mut SpanStoreFound) -> Status
-    ensures found { TellsSpan id found.new store.now result store.now }
+    ensures found { AnswersSpan id found.new store.now result store.now }
     ensures kept { Keeps (Some result) found.old found.new }
 {
     let Some(id) = id_of(store, id) else {
@@ -252,7 +252,7 @@ pub extern "C" fn span_store_find(
     id: u64,
     found: &mut SpanStoreFound,
 ) -> u32
-    ensures found { OnHeld store.old.held (TellsSpan id found.new) (meant result) store.new.held }
+    ensures found { OnHeld store.old.held (AnswersSpan id found.new) (meant result) store.new.held }
     ensures kept { Keeps (meant result) found.old found.new }
 {
     let Some(held) = store.take(alloc) else {
@@ -264,7 +264,7 @@ pub extern "C" fn span_store_find(
 }
 
 fn next(store: &Store, after: u64, id: &mut u64) -> Status
-    ensures told { TellsNext after id.new store.now result store.now }
+    ensures told { AnswersNext after id.new store.now result store.now }
     ensures kept { Keeps (Some result) id.old id.new }
 {
     let slot = if after == 0 {
@@ -288,7 +288,7 @@ pub extern "C" fn span_store_next(
     after: u64,
     id: &mut u64,
 ) -> u32
-    ensures told { OnHeld store.old.held (TellsNext after id.new) (meant result) store.new.held }
+    ensures told { OnHeld store.old.held (AnswersNext after id.new) (meant result) store.new.held }
     ensures kept { Keeps (meant result) id.old id.new }
 {
     let Some(held) = store.take(alloc) else {
@@ -300,7 +300,7 @@ pub extern "C" fn span_store_next(
 }
 
 fn counts_of(store: &Store) -> SpanStoreCounts
-    ensures { TellsCounts result store.now Status.Done store.now }
+    ensures { AnswersCounts result store.now Status.Done store.now }
 {
     SpanStoreCounts {
         handles: store.handles(),
@@ -315,7 +315,7 @@ pub extern "C" fn span_store_counts(
     store: &mut SpanStore,
     counts: &mut SpanStoreCounts,
 ) -> u32
-    ensures counts { OnHeld store.old.held (TellsCounts counts.new) (meant result) store.new.held }
+    ensures counts { OnHeld store.old.held (AnswersCounts counts.new) (meant result) store.new.held }
     ensures kept { Keeps (meant result) counts.old counts.new }
 {
     let Some(held) = store.take(alloc) else {

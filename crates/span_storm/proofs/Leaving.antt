@@ -176,6 +176,6 @@ world_is_empty rules workers rounds history world legal each are emptied =
 -- what the report counts then
 pub nothing_left : (limits : Limits) (rounds : ℕ) (rules : List Filter) (forms : List Form) (report : Report) → IsStormEnd limits rounds rules forms report → (report.entries ≡ 0) × (report.left ≡ 0)
 nothing_left limits rounds rules forms report end = (
-  end.told.counts.entries ∙ ap (λ (world : World). entries_in world.stacks) end.emptied ∙ no_entries limits.workers,
-  end.told.counts.left ∙ ap (λ (world : World). length world.spans) end.emptied,
+  end.report_is.counts.entries ∙ ap (λ (world : World). entries_in world.stacks) end.emptied ∙ no_entries limits.workers,
+  end.report_is.counts.left ∙ ap (λ (world : World). length world.spans) end.emptied,
 )

@@ -16,7 +16,7 @@ use Rattle.span_core.specs.History.{IsLegal}
 use Rattle.span_core.specs.Core.{CoreView, WhyRefused}
 use Rattle.span_history.specs.Own.{own}
 use Rattle.span_registry.specs.declared.report.Report.{Report}
-use Rattle.span_registry.specs.Report.{IsWithin, Tells}
+use Rattle.span_registry.specs.Report.{IsWithin, IsReportOf}
 use Rattle.span_storm.specs.declared.fault.StormFault.{StormFault}
 use Rattle.span_storm.specs.declared.fault.StormFault.TheVariants.{Memory, Refused, Held}
 
@@ -88,7 +88,7 @@ pub record IsStormEnd
   pub each : (worker : ℕ) → worker < limits.workers → length (own worker core.sent) ≡ 9 * rounds
   pub rounds_are : (worker : ℕ) → worker < limits.workers → AreOfRounds worker (own worker core.sent)
   pub emptied : core.world ≡ empty_world limits.workers
-  pub told : Tells core forms report
+  pub report_is : IsReportOf core forms report
 
 -- ---- where it ends early
 

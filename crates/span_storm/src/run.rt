@@ -88,7 +88,7 @@ fn with_metas<G: Gate + Sync, R: Threads + Wait + Sync>(
     let Ok((ring, tap)) = Ring::pair(alloc, checked) else {
         return Err(StormFault::Memory);
     };
-    let (filters, tellers) = layers.split();
+    let (filters, formatting) = layers.split();
     run::<Brand, Brand, Brand, _, _, _>(
         rt,
         alloc,
@@ -97,7 +97,7 @@ fn with_metas<G: Gate + Sync, R: Threads + Wait + Sync>(
         metas,
         filters,
         ring,
-        Drain::new(alloc, tap, tellers),
+        Drain::new(alloc, tap, formatting),
         blanks,
     )
 }

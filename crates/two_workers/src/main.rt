@@ -69,13 +69,13 @@ fn visited<R: Threads + Wait + Sync>(
         ..Limits::default()
     };
     let blanks = Blanks::new(alloc, &limits.check()?)?;
-    let (filters, tellers) = layers.split();
+    let (filters, formatting) = layers.split();
     visits::<Brand, Brand, Brand, _>(
         rt,
         alloc,
         request,
         filters,
-        Kept::new(alloc, tellers),
+        Kept::new(alloc, formatting),
         blanks,
     )
 }

@@ -38,9 +38,9 @@ impl CoreLoop {
             ring,
             tap,
         } = CoreParts::new(alloc, limits, fields)?;
-        let (filters, tellers) = layers.split();
+        let (filters, formatting) = layers.split();
         let core = Core::new(alloc, &checked, filters, ring)?;
-        let reader = LineReader::new(alloc, tap, tellers);
+        let reader = LineReader::new(alloc, tap, formatting);
         Ok(CoreLoop {
             texts,
             core,

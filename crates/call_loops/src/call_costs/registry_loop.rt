@@ -37,7 +37,7 @@ pub fn calls_on_registry<R: Wait>(
         ring,
         tap,
     } = core;
-    let (filters, tellers) = layers.split();
+    let (filters, formatting) = layers.split();
     run::<Brand, Brand, Brand, _, _>(
         rt,
         alloc,
@@ -45,7 +45,7 @@ pub fn calls_on_registry<R: Wait>(
         &texts,
         filters,
         ring,
-        LineReader::new(alloc, tap, tellers),
+        LineReader::new(alloc, tap, formatting),
         blanks,
     )
 }

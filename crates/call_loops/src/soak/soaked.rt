@@ -69,7 +69,7 @@ pub fn beside_a_reader<R: Threads + Wait + Clock + Sync>(
         ring,
         tap,
     } = core;
-    let (filters, tellers) = layers.split();
+    let (filters, formatting) = layers.split();
     run::<Brand, Brand, Brand, _, _>(
         rt,
         alloc,
@@ -77,7 +77,7 @@ pub fn beside_a_reader<R: Threads + Wait + Clock + Sync>(
         &texts,
         filters,
         ring,
-        LineReader::new(alloc, tap, tellers),
+        LineReader::new(alloc, tap, formatting),
         blanks,
     )
 }

@@ -16,7 +16,7 @@ use crate::stage::Memory::Taken;
 use crate::stage::Stage;
 use crate::stop::Stop;
 use crate::trial::{Planned, perform};
-use span_layers::{Admit, Filters, Say, Tellers};
+use span_layers::{Admit, Filters, Formatting, Say};
 use span_outlet::Kept;
 use span_registry::{Blanks, HANDLE_PARTS, Registry, Setup, Worker};
 use std::alloc::Global;
@@ -55,7 +55,7 @@ pub(crate) fn run<R: Print + Wait>(
     row: Row,
     given: &Given,
     filters: Filters,
-    tellers: Tellers,
+    formatting: Formatting,
 ) -> Result<(), Stop> {
     let plan = if matches!(row, Row::GivenUp) {
         GIVEN_UP.as_slice()
@@ -68,7 +68,7 @@ pub(crate) fn run<R: Print + Wait>(
         plan,
         given,
         filters,
-        Kept::new(alloc, tellers),
+        Kept::new(alloc, formatting),
     )
 }
 

@@ -7,7 +7,9 @@ use crate::stop::Stop;
 use crate::texts::{meta_of, note_of};
 use crate::trial::{Planned, Subject, perform, tell_refused};
 use span_id::{Fault, Level, Meta};
-use span_layers::{Filters, Form, Kind, Layer, Layers, Note, Rule, Style, Tellers, admits, text};
+use span_layers::{
+    Filters, Form, Formatting, Kind, Layer, Layers, Note, Rule, Style, admits, text,
+};
 use std::alloc::{AllocError, Global};
 
 // Of which kinds notes are written, and with which fields.
@@ -36,7 +38,7 @@ static WAYS: [Planned<'static, Act>; 3] = [
 #[derive(Drop)]
 struct OnNote<'a> {
     alloc: Global,
-    tellers: &'a Tellers,
+    formatting: &'a Formatting,
     note: &'a Note,
 }
 
@@ -99,23 +101,23 @@ fn judge<R: Print>(
 /// Splits the layers, and tells what both parts answer.
 pub(crate) fn run<R: Print>(stage: &Stage<R>, alloc: Global, layers: Layers) -> Result<(), Stop> {
     stage.begin(Memory::Untouched);
-    let (filters, tellers) = layers.split();
+    let (filters, formatting) = layers.split();
     stage.over();
-    tell_parts(stage, alloc, &filters, &tellers)
+    tell_parts(stage, alloc, &filters, &formatting)
 }
 
 fn tell_parts<R: Print>(
     stage: &Stage<R>,
     alloc: Global,
     filters: &Filters,
-    tellers: &Tellers,
+    formatting: &Formatting,
 ) -> Result<(), Stop> {
     ask(stage, alloc, filters)?;
-    stage.wrote(println!(stage.rt; "tellers: {}", tellers.len()));
+    stage.wrote(println!(stage.rt; "formatting: {}", formatting.len()));
     for layer in 0..2 {
         for (kind, fields) in &NOTES {
             let note = note_of(alloc, layer, *kind, fields)?;
-            write(stage, alloc, tellers, &note)?;
+            write(stage, alloc, formatting, &note)?;
         }
     }
     Ok(())
@@ -143,12 +145,12 @@ fn ask_of<R: Print>(stage: &Stage<R>, filters: &Filters, meta: &Meta, rule: &Rul
 fn write<R: Print>(
     stage: &Stage<R>,
     alloc: Global,
-    tellers: &Tellers,
+    formatting: &Formatting,
     note: &Note,
 ) -> Result<(), Stop> {
     let mut subject = OnNote {
         alloc,
-        tellers,
+        formatting,
         note,
     };
     perform(stage, alloc, &mut subject, &WAYS)
@@ -158,19 +160,19 @@ impl<'a> Subject<Act> for OnNote<'a> {
     fn call(&mut self, act: &Act) -> Result<Answer, Fault> {
         match act {
             Act::Text(form) => Ok(Answer::Bytes(text(self.alloc, *form, self.note)?)),
-            Act::Say => say(self.tellers, self.note).map(Answer::Bytes),
+            Act::Say => say(self.formatting, self.note).map(Answer::Bytes),
         }
     }
 
     fn look(&mut self, text: &mut String) -> Result<(), AllocError> {
-        write!(text, "{:?} {}", self.note, self.tellers.len())
+        write!(text, "{:?} {}", self.note, self.formatting.len())
     }
 }
 
 // The text of a note whose layer is there.
-fn say(tellers: &Tellers, note: &Note) -> Result<Vec<u8>, Fault> {
-    if (note.layer as usize) < tellers.len() {
-        tellers.say(note)
+fn say(formatting: &Formatting, note: &Note) -> Result<Vec<u8>, Fault> {
+    if (note.layer as usize) < formatting.len() {
+        formatting.say(note)
     } else {
         Err(Fault::Unknown)
     }

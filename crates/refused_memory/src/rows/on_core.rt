@@ -17,7 +17,7 @@ use crate::texts::{add_lines, add_numbers, add_span, add_stack};
 use crate::trial::{Planned, Subject, perform};
 use span_core::Core;
 use span_id::{Fault, Meta};
-use span_layers::{Admit, Filters, Tellers};
+use span_layers::{Admit, Filters, Formatting};
 use span_outlet::{Kept, Outlet, ParentOf};
 use std::alloc::{AllocError, Global};
 
@@ -97,9 +97,9 @@ pub(crate) fn run<R: Print>(
     alloc: Global,
     given: &Given,
     filters: Filters,
-    tellers: Tellers,
+    formatting: Formatting,
 ) -> Result<(), Stop> {
-    on_outlet(stage, alloc, given, filters, Kept::new(alloc, tellers))
+    on_outlet(stage, alloc, given, filters, Kept::new(alloc, formatting))
 }
 
 fn on_outlet<O: Outlet + Lines + Drop, R: Print>(

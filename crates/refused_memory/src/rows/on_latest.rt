@@ -12,7 +12,7 @@ use crate::stage::Stage;
 use crate::stop::Stop;
 use crate::trial::{Planned, attempt};
 use span_core::Core;
-use span_layers::{Admit, Filters, Rules, Say, Tellers};
+use span_layers::{Admit, Filters, Formatting, Rules, Say};
 use span_outlet::Latest;
 use std::alloc::Global;
 
@@ -44,10 +44,10 @@ pub(crate) fn run<R: Print>(
     alloc: Global,
     given: &Given,
     filters: Filters,
-    tellers: Tellers,
+    formatting: Formatting,
 ) -> Result<(), Stop> {
     let Filters { rules, admitters } = filters;
-    let Tellers { forms, formatters } = tellers;
+    let Formatting { forms, formatters } = formatting;
     stage.begin(Untouched);
     let latest = Latest::with_formatters(alloc, forms, formatters);
     stage.over();

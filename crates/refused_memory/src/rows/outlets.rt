@@ -4,9 +4,9 @@ ghost use Rattle.std.specs.Prelude.{◌≡◌, ◌≤◌, ◌+◌, [], true, OnO
 use crate::rows::ending::tell_lines;
 use crate::stage::{Memory, Stage, TRIES};
 use crate::stop::Stop;
-use crate::texts::{meta_of, note_of, plain_tellers};
+use crate::texts::{meta_of, note_of, plain_formatting};
 use span_id::{Id, Level, Limits};
-use span_layers::{Kind, Note, Say, Tellers};
+use span_layers::{Formatting, Kind, Note, Say};
 use span_outlet::{Batch, Call, Kept, KnownEvent, Latest, Line, Outlet, ParentOf, Reply, Ring};
 use std::alloc::Global;
 
@@ -48,10 +48,14 @@ pub(crate) fn notes_of<O: Lines>(outlet: &O) -> u64 {
 }
 
 /// Puts a batch with one note into each of two outlets, and tells what they show.
-pub(crate) fn run<R: Print>(stage: &Stage<R>, alloc: Global, tellers: Tellers) -> Result<(), Stop> {
+pub(crate) fn run<R: Print>(
+    stage: &Stage<R>,
+    alloc: Global,
+    formatting: Formatting,
+) -> Result<(), Stop> {
     put_in_ring(stage, alloc)?;
     stage.begin(Memory::Untouched);
-    let mut kept = Kept::new(alloc, tellers);
+    let mut kept = Kept::new(alloc, formatting);
     stage.over();
     put_in_kept(stage, alloc, &mut kept)
 }
@@ -92,9 +96,9 @@ fn put_in_kept<V: Say, R: Print>(
 
 /// Puts a batch with one note and two events into a `Latest`, and tells what it shows.
 pub(crate) fn run_latest<R: Print>(stage: &Stage<R>, alloc: Global) -> Result<(), Stop> {
-    let tellers = plain_tellers(alloc)?;
+    let formatting = plain_formatting(alloc)?;
     stage.begin(Memory::Untouched);
-    let mut latest = Latest::new(alloc, tellers);
+    let mut latest = Latest::new(alloc, formatting);
     stage.over();
     put_in_latest(stage, alloc, &mut latest)
 }

@@ -30,10 +30,8 @@ fn limits<R: Print>(stage: &Stage<R>) {
 }
 
 fn slots_of(limits: Limits) -> Result<u32, Fault> {
-    match limits.check() {
-        Ok(checked) => Ok(checked.limits().slots),
-        Err(fault) => Err(fault),
-    }
+    let checked = limits.check()?;
+    Ok(checked.limits().slots)
 }
 
 // A counted device, to which a text is written, and the status of a fault.

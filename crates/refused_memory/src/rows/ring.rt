@@ -17,7 +17,7 @@ use crate::stop::Stop;
 use crate::texts::{add_lines, add_numbers};
 use crate::trial::{Planned, Subject, perform};
 use span_id::Fault;
-use span_layers::{Admit, Filters, Say, Tellers};
+use span_layers::{Admit, Filters, Formatting, Say};
 use span_outlet::{Drain, Ring, Step, Tap};
 use span_registry::{Blanks, HANDLE_PARTS, Registry, Setup, Worker};
 use std::alloc::{AllocError, Global};
@@ -134,11 +134,11 @@ pub(crate) fn run<R: Print + Wait>(
     row: Row,
     given: &Given,
     filters: Filters,
-    tellers: Tellers,
+    formatting: Formatting,
 ) -> Result<(), Stop> {
     let (ring, tap, blanks) = parts(stage, alloc, given)?;
     stage.begin(Untouched);
-    let drain = Drain::new(alloc, tap, tellers);
+    let drain = Drain::new(alloc, tap, formatting);
     stage.over();
     named::<Brand, Brand, Brand, _, R>(
         stage,

@@ -92,13 +92,13 @@ fn go_on<R: Print + Wait>(
     if matches!(row, Row::Layers) {
         return layers::run(stage, alloc, layers);
     }
-    let (filters, tellers) = layers.split();
+    let (filters, formatting) = layers.split();
     match row {
-        Row::Outlets => outlets::run(stage, alloc, tellers),
-        Row::Core => on_core::run(stage, alloc, given, filters, tellers),
-        Row::Texts => appended::run(stage, alloc, &tellers.formatters),
-        Row::Latest => on_latest::run(stage, alloc, given, filters, tellers),
-        Row::FullRing | Row::Ring => ring::run(stage, alloc, row, given, filters, tellers),
-        _ => kept::run(stage, alloc, row, given, filters, tellers),
+        Row::Outlets => outlets::run(stage, alloc, formatting),
+        Row::Core => on_core::run(stage, alloc, given, filters, formatting),
+        Row::Texts => appended::run(stage, alloc, &formatting.formatters),
+        Row::Latest => on_latest::run(stage, alloc, given, filters, formatting),
+        Row::FullRing | Row::Ring => ring::run(stage, alloc, row, given, filters, formatting),
+        _ => kept::run(stage, alloc, row, given, filters, formatting),
     }
 }

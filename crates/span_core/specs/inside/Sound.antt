@@ -6,11 +6,11 @@ use Rattle.span_id.specs.Bits.{has_bit}
 use Rattle.span_layers.specs.declared.note.Kind.{Kind}
 use Rattle.span_layers.specs.declared.note.Kind.TheVariants.{OnNew}
 use Rattle.span_id.specs.Meta.{KeyValue}
+use Rattle.span_id.specs.Ids.{has}
 use Rattle.span_layers.specs.Note.{PlainNote}
 use Rattle.span_layers.specs.Filter.{Filter, layer_wants}
 use Rattle.span_forest.specs.Spans.{Spans}
 use Rattle.span_forest.specs.Forest.{ForestView}
-use Rattle.span_forest.specs.Live.{stands_in}
 use Rattle.span_forest.specs.Path.{path_text}
 use Rattle.span_core.specs.World.{IsWorld}
 use Rattle.span_core.specs.Happening.{path_at}
@@ -38,9 +38,9 @@ pub record IsSound
     : Type 0 where
   pub calls_are : calls ≡ length sent
   pub forest_is : forest ≡ forest_with limits forest.spans (slots_after limits.last_generation sent)
-  pub counted : (id : ℕ) → stands_in id (issued sent) ≡ true → generation_of id < slice_index forest.given (slot_of id)
+  pub counted : (id : ℕ) → has (issued sent) id ≡ true → generation_of id < slice_index forest.given (slot_of id)
   pub given : (id : ℕ) → IsId id → generation_of id < slice_index forest.given (slot_of id)
-      → stands_in id (issued sent) ≡ true
+      → has (issued sent) id ≡ true
   pub stacks_are : length stacks ≡ limits.workers
   pub world : IsWorld (record { spans = forest.spans; stacks = stacks })
   pub legal : IsLegal rules limits.workers sent (record { spans = forest.spans; stacks = stacks })

@@ -10,8 +10,8 @@
 use Rattle.std.specs.Prelude.{◌≡◌, ℕ, ◌+◌, ◌*◌, ◌≤◌, true, false, List, [], length, take, slice_get, slice_index_or, Some}
 use Rattle.span_id.specs.declared.bits.Bits.{Bits}
 use Rattle.span_id.specs.Bits.{has_bit}
+use Rattle.span_id.specs.Ids.{has}
 use Rattle.span_forest.specs.Spans.{Spans}
-use Rattle.span_stack.specs.Stack.{has}
 use Rattle.span_core.specs.declared.summary.Summary.{Summary}
 use Rattle.span_core.specs.Happening.{bits_in}
 

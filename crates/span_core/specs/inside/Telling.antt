@@ -11,9 +11,9 @@ use Rattle.span_forest.specs.declared.span.Span.{Span as OpenSpan}
 use Rattle.span_forest.specs.Node.{node_of}
 use Rattle.span_forest.specs.Spans.{Spans, find, IsOpen}
 use Rattle.span_forest.specs.Path.{path_text}
-use Rattle.span_core.specs.declared.notes.Telling.{Telling}
-use Rattle.span_core.specs.declared.notes.paths.ToldPath.{ToldPath}
-use Rattle.span_core.specs.declared.notes.paths.ToldPaths.{ToldPaths}
+use Rattle.span_core.specs.declared.notes.Happening.{Happening}
+use Rattle.span_core.specs.declared.notes.paths.SharedPath.{SharedPath}
+use Rattle.span_core.specs.declared.notes.paths.SharedPaths.{SharedPaths}
 use Rattle.span_core.specs.declared.notes.Subject.{Subject}
 use Rattle.span_core.specs.declared.notes.Subject.TheVariants.{Span, NewSpan, Event}
 use Rattle.span_core.specs.declared.notes.events.Around.{Around}
@@ -35,52 +35,53 @@ AreSummarised spans _ = Unit {0}
 
 -- the same of an event
 abbrev pub IsSummarised : Spans → Subject → Type 0
-IsSummarised spans (Span id seen) = Unit {0}
+IsSummarised spans (Span id span) = Unit {0}
 IsSummarised spans (NewSpan id parent name) = Unit {0}
 IsSummarised spans (Event around level message) = AreSummarised spans around
 
--- the span stands at this place
+-- this span stands at the place
 abbrev pub IsAt : Spans → Option ℕ → Bor OpenSpan → Type 0
 IsAt spans place span = IfSome place (λ id. find spans id ≡ Some (node_of span.now))
 
--- the span that is told of is open, and is the one in hand; an event has none of its own, and a new span isn't there yet
+-- the span to which something happens is open, and is the one in hand; an event has none of its own, and a new span
+-- isn't there yet
 abbrev pub IsThere : Spans → Subject → Type 0
-IsThere spans (Span id seen) = IsOpen spans id × IfSome seen (IsAt spans (Some id))
+IsThere spans (Span id span) = IsOpen spans id × IsAt spans (Some id) span
 IsThere spans (NewSpan id parent name) = Unit {0}
 IsThere spans (Event around level message) = Unit {0}
 
 -- where the path of a layer is read: that of a new span at its parent
 abbrev pub place_told : Spans → Subject → ℕ → Option ℕ
-place_told spans (Span id seen) layer = Some id
+place_told spans (Span id span) layer = Some id
 place_told spans (NewSpan id parent name) layer = parent
 place_told spans (Event around level message) layer = contextual_span spans (ids_around around) layer
 
 -- a span is open where the path of a span or an event is read, and is the one in hand; that of a new span goes on from
 -- its parent's
 abbrev pub IsReadable : Spans → Subject → Option ℕ → Type 0
-IsReadable spans (Span id seen) place = IfSome place (IsOpen spans) × IfSome seen (IsAt spans place)
+IsReadable spans (Span id span) place = IfSome place (IsOpen spans) × IsAt spans place span
 IsReadable spans (NewSpan id parent name) place = Unit {0}
 IsReadable spans (Event around level message) place = IfSome place (IsOpen spans)
 
 -- the id that a layer is told, which reads its path at this place; where there is none, 0
 abbrev pub id_told : Subject → Option ℕ → ℕ
-id_told (Span id seen) place = unwrap_or place 0
+id_told (Span id span) place = unwrap_or place 0
 id_told (NewSpan id parent name) place = id
 id_told (Event around level message) place = unwrap_or place 0
 
 -- the text of the path that it is told, which has these names where it is read; a new span has its own name too
 abbrev pub text_told : Subject → List (List ℕ) → List ℕ
-text_told (Span id seen) path = path_text path
+text_told (Span id span) path = path_text path
 text_told (NewSpan id parent name) path = path_text (path ++ name.now ∷ [])
 text_told (Event around level message) path = path_text path
 
 -- what is known of a text that was told: these layers read it at its place
-abbrev pub KnowsPath : (List (List ℕ) → List ℕ) → Spans → ToldPath → Type 0
+abbrev pub KnowsPath : (List (List ℕ) → List ℕ) → Spans → SharedPath → Type 0
 KnowsPath told spans path =
     (layer : ℕ) → IsTrue (has_bit path.same.0 layer) → arc_str_bytes path.text ≡ told (path_at layer spans path.place)
 
 -- the same of each text that a call has told so far
-pub record Knows (told : List (List ℕ) → List ℕ) (spans : Spans) (paths : ToldPaths) : Type 0 where
+pub record Knows (told : List (List ℕ) → List ℕ) (spans : Spans) (paths : SharedPaths) : Type 0 where
   pub first : IfSome paths.first (KnowsPath told spans)
   pub further : All (KnowsPath told spans) paths.further.items
 
@@ -90,7 +91,7 @@ event_said (Event around level message) = Some (record { level = level; message 
 event_said _ = None
 
 -- what a layer is told
-abbrev pub told_to : Spans → Telling → ℕ → PlainNote
+abbrev pub told_to : Spans → Happening → ℕ → PlainNote
 told_to spans what layer = record {
   layer = layer;
   kind = what.kind;
@@ -106,6 +107,6 @@ unfoldable pub told_from : ℕ → ℕ → List ℕ
 told_from mask from = filter (has_bit mask) (range_with_len from (64 - from))
 
 -- what the layers are told, one note for each that is
-abbrev pub notes_told : List Filter → Spans → Telling → List PlainNote
+abbrev pub notes_told : List Filter → Spans → Happening → List PlainNote
 notes_told rules spans what =
     map (told_to spans what) (filter (hears rules what.bits.0 what.kind) (range_with_len 0 (length rules)))

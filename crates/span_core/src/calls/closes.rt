@@ -16,7 +16,7 @@ ghost use Rattle.span_core.specs.declared.known_paths.KnownPaths.{KnownPaths};
 ghost use Rattle.span_core.specs.inside.Remembering.{Remembers};
 
 use crate::notes::closing::{close_notes, closing_lists_are_chains};
-use crate::notes::{SeenSpan, exit_notes};
+use crate::notes::{FoundSpan, exit_notes};
 use crate::recent::Recent;
 use span_forest::laws::{open_spans_are_counted, walks_end};
 use span_forest::{Forest, Holder};
@@ -36,7 +36,7 @@ pub(crate) fn closes_on_exit<'a>(
     recent: &mut Recent,
     rules: &Rules,
     forest: &'a Forest,
-    exit: &SeenSpan<'a>,
+    exit: &FoundSpan<'a>,
     stays: bool,
 ) -> Result<Closes, Fault>
     requires found { find forest.now.spans exit.now.id ≡ Some (node_of exit.now.span.now) }
@@ -72,7 +72,7 @@ pub(crate) fn closes_on_release<'a>(
     recent: &mut Recent,
     rules: &Rules,
     forest: &'a Forest,
-    release: &SeenSpan<'a>,
+    release: &FoundSpan<'a>,
 ) -> Result<Closes, Fault>
     requires found { find forest.now.spans release.now.id ≡ Some (node_of release.now.span.now) }
     requires count { release.now.span.now.count ≡ reference_count forest.now.spans release.now.id }
@@ -108,7 +108,7 @@ pub(crate) fn give_back(recent: &mut Recent, forest: &mut Forest, id: Id, closin
 fn closing_on_exit(
     alloc: Global,
     forest: &Forest,
-    exit: &SeenSpan<'_>,
+    exit: &FoundSpan<'_>,
     stays: bool,
 ) -> Result<Vec<Id>, Fault>
     requires found { find forest.now.spans exit.now.id ≡ Some (node_of exit.now.span.now) }
@@ -142,14 +142,14 @@ fn release_on_exit(forest: &mut Forest, stays: bool, id: Id, closing: &[Id])
 
 // The spans that close where a holder that is there is given back, child first.
 #[inline]
-fn closing_of(forest: &Forest, seen: &SeenSpan<'_>, holder: Holder) -> Result<Vec<Id>, Fault>
-    requires found { find forest.now.spans seen.now.id ≡ Some (node_of seen.now.span.now) }
-    requires count { seen.now.span.now.count ≡ reference_count forest.now.spans seen.now.id }
-    requires held { IsHeld forest.now.spans seen.now.id holder }
-    ensures list { IfOk result (λ ids. ids.items ≡ closing_list forest.now.spans seen.now.id holder) }
+fn closing_of(forest: &Forest, found: &FoundSpan<'_>, holder: Holder) -> Result<Vec<Id>, Fault>
+    requires found { find forest.now.spans found.now.id ≡ Some (node_of found.now.span.now) }
+    requires count { found.now.span.now.count ≡ reference_count forest.now.spans found.now.id }
+    requires held { IsHeld forest.now.spans found.now.id holder }
+    ensures list { IfOk result (λ ids. ids.items ≡ closing_list forest.now.spans found.now.id holder) }
     ensures chain { IfOk result (λ ids. IsChain forest.now.spans ids.items) }
     ensures memory { IfErr result (λ fault. fault ≡ Fault.Memory) }
 {
     closing_lists_are_chains(forest);
-    forest.closing_above(seen.id, holder, seen.span.count, seen.span.parent)
+    forest.closing_above(found.id, holder, found.span.count, found.span.parent)
 }

@@ -1,15 +1,12 @@
 //! The calls that change a worker's stack.
-ghost use Rattle.std.specs.Prelude.{◌≡◌, ◌<◌, ◌↔◌, true, not, if◌then◌else◌, nat_lt, length, None, IsTrue, IfOk, IfErr, OnOk, OnErr};
+ghost use Rattle.std.specs.Prelude.{◌≡◌, ◌<◌, ◌↔◌, true, if◌then◌else◌, nat_lt, length, None, IsTrue, IfOk, IfErr, OnOk, OnErr};
 ghost use Rattle.span_forest.specs.declared.span.Holder.TheVariants.{Handle, Entry};
 ghost use Rattle.span_forest.specs.Spans.{find};
 ghost use Rattle.span_forest.specs.Count.{reference_count};
 ghost use Rattle.span_forest.specs.Holders.{IsHeld};
 ghost use Rattle.span_forest.specs.Keep.{with_holder};
 ghost use Rattle.span_outlet.specs.Request.{enter, entered, exit, exited};
-ghost use Rattle.span_stack.specs.Stack.{has};
-ghost use Rattle.span_core.specs.World.{stack_of};
-ghost use Rattle.span_core.specs.Happening.{bits_in};
-ghost use Rattle.span_core.specs.Step.{closed_by_exit, is_open, stays_inside};
+ghost use Rattle.span_core.specs.Step.{closed_by_exit, stays_inside};
 ghost use Rattle.span_core.specs.Core.{IsDue, IsAccepted, IsRefused};
 ghost use Rattle.span_core.specs.GivenBack.{ClosesWhatNothingHolds};
 ghost use Rattle.span_core.specs.Shown.{MayBeShown, IsShown};
@@ -19,19 +16,12 @@ use crate::calls::closes::{Closes, closes_on_exit, leave};
 use crate::calls::held::{held_span, open_span};
 use crate::calls::room::ask;
 use crate::laws::{accepted_releases_close_what_nothing_holds, the_named_span_closes_first};
-use crate::notes::{Happening, SeenSpan, span_notes};
+use crate::notes::{FoundSpan, span_notes};
 use crate::stacks::{is_outside, pop_at, push_at, stays_inside};
 use span_forest::{Forest, Holder};
-use span_id::{Bits, Fault, Fields, Id};
+use span_id::{Fault, Fields, Id};
 use span_layers::Kind;
 use span_outlet::{Batch, Call, Outlet, Reply};
-
-/// What an entry would do: whether it is the worker's first of the span, and the layers that admit the span.
-#[derive(Clone, Copy)]
-struct Entering {
-    first: bool,
-    bits: Bits,
-}
 
 impl<O: Outlet, A> Core<O, A> {
     /// A worker, whose number needs to be below `workers`, enters a span that has a handle. It answers whether the
@@ -44,31 +34,33 @@ impl<O: Outlet, A> Core<O, A> {
         ensures accepted { IfOk result (λ first. IsAccepted self.old (enter worker id) (entered first) self.new) }
         ensures refused { IfErr result (λ fault. IsRefused self.old (enter worker id) fault self.new) }
     {
-        let entering = self.entering(worker, id)?;
-        ask(&mut self.outlet, &mut self.recent.spare)?;
-        let what = Happening {
-            worker,
-            kind: Kind::OnEnter,
-            id,
-            bits: entering.bits,
-            seen: None,
+        let Some(span) = held_span(&self.forest, id) else {
+            return Err(Fault::Unknown);
         };
+        let first = is_outside(self.stacks.as_slice(), worker, id, span.entries);
+        let full = first && span.count >= self.limits.limits().max_count;
+        if full || self.calls == u64::MAX {
+            return Err(Fault::CountFull);
+        }
+        ask(&mut self.outlet, &mut self.recent.spare)?;
+        let found = FoundSpan { worker, id, span };
         let notes = span_notes(
             &mut self.recent,
             &self.rules,
             &self.forest,
-            &what,
+            &found,
+            Kind::OnEnter,
             &Fields::none(),
         )?;
-        push_at(&mut self.stacks, worker, id, entering.first)?;
-        keep_first(&mut self.forest, entering.first, id);
+        push_at(&mut self.stacks, worker, id, first)?;
+        keep_first(&mut self.forest, first, id);
         self.calls += 1;
         self.outlet.put(Batch {
             call: Call::Enter { worker, id },
-            reply: Reply::Entered(entering.first),
+            reply: Reply::Entered(first),
             notes,
         });
-        Ok(entering.first)
+        Ok(first)
     }
 
     /// A worker, whose number needs to be below `workers`, leaves a span: the topmost entry of it is taken out of the
@@ -125,7 +117,7 @@ impl<O: Outlet, A> Core<O, A> {
         };
         ask(&mut self.outlet, &mut self.recent.spare)?;
         self.summary.cut(self.stacks.as_slice(), worker, id);
-        let exit = SeenSpan { worker, id, span };
+        let exit = FoundSpan { worker, id, span };
         let closes = closes_on_exit(&mut self.recent, &self.rules, &self.forest, &exit, stays)?;
         let Closes { ids, notes } = closes;
         leave(
@@ -145,28 +137,6 @@ impl<O: Outlet, A> Core<O, A> {
             notes,
         });
         Ok(closed)
-    }
-
-    // What an entry would do, or why it is refused.
-    fn entering(&self, worker: u32, id: Id) -> Result<Entering, Fault>
-        requires { worker < self.now.limits.workers }
-        ensures due { OnOk result (IsDue self.now (enter worker id)) }
-        ensures first { IfOk result (λ entering. entering.first ≡ not (has (stack_of self.now.world worker) id)) }
-        ensures bits { IfOk result (λ entering. entering.bits.0 ≡ bits_in self.now.world.spans id) }
-        ensures refused { IfErr result (λ fault. IsRefused self.now (enter worker id) fault self.now) }
-    {
-        let Some(seen) = held_span(&self.forest, id) else {
-            return Err(Fault::Unknown);
-        };
-        let first = is_outside(self.stacks.as_slice(), worker, id, seen.entries);
-        let full = first && seen.count >= self.limits.limits().max_count;
-        if full || self.calls == u64::MAX {
-            return Err(Fault::CountFull);
-        }
-        Ok(Entering {
-            first,
-            bits: seen.bits,
-        })
     }
 }
 

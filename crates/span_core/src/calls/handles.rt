@@ -1,33 +1,27 @@
 //! The calls on a handle that enter no stack: one more handle, fields appended, a handle given back.
-ghost use Rattle.std.specs.Prelude.{◌≡◌, ◌<◌, ◌↔◌, nat_lt, length, map, None, IsTrue, OnOk, OnErr, IfOk, IfErr};
+ghost use Rattle.std.specs.Prelude.{◌≡◌, ◌<◌, ◌↔◌, nat_lt, length, None, IsTrue, OnOk, OnErr, IfOk, IfErr};
 ghost use Rattle.span_forest.specs.declared.span.Holder.TheVariants.{Handle};
 ghost use Rattle.span_forest.specs.Node.{with_fields};
 ghost use Rattle.span_forest.specs.Spans.{find, with_change};
-ghost use Rattle.span_forest.specs.Count.{reference_count};
 ghost use Rattle.span_forest.specs.Holders.{IsHeld};
 ghost use Rattle.span_forest.specs.Release.{closing_list};
 ghost use Rattle.span_id.specs.Meta.{plain_fields};
-ghost use Rattle.span_layers.specs.Note.{plain_note};
-ghost use Rattle.span_outlet.specs.Request.{request_of, clone_span, cloned, record_fields, recorded, try_close, released};
-ghost use Rattle.span_core.specs.Happening.{at_span, bits_in, notes_of};
+ghost use Rattle.span_outlet.specs.Request.{clone_span, cloned, record_fields, recorded, try_close, released};
 ghost use Rattle.span_core.specs.inside.Given.{fields_given};
 ghost use Rattle.span_core.specs.Core.{IsDue, IsAccepted, IsRefused};
 ghost use Rattle.span_core.specs.GivenBack.{ClosesWhatNothingHolds};
 ghost use Rattle.span_core.specs.Shown.{MayBeShown, IsShown};
-ghost use Rattle.span_core.specs.inside.Remembering.{Remembers};
 
 use crate::Core;
 use crate::calls::closes::{Closes, closes_on_release, give_back};
-use crate::calls::held::{held_bits, held_span};
+use crate::calls::held::held_span;
 use crate::calls::names::are_keys;
 use crate::calls::room::ask;
 use crate::given::GivenFields;
 use crate::laws::{accepted_releases_close_what_nothing_holds, the_named_span_closes_first};
-use crate::notes::{Announced, Happening, SeenSpan, record_told};
-use crate::recent::Recent;
+use crate::notes::{Announced, FoundSpan, record_told};
 use span_forest::{Forest, Holder};
-use span_id::{Bits, Fault, Field, Fields, Id};
-use span_layers::{Kind, Rules};
+use span_id::{Fault, Field, Fields, Id};
 use span_outlet::{Batch, Call, Outlet, Reply};
 
 impl<O: Outlet, A> Core<O, A> {
@@ -86,22 +80,21 @@ impl<O: Outlet, A> Core<O, A> {
         ensures refused { IfErr result (λ fault. IsRefused self.old
             (record_fields worker id (fields_given fields.now)) fault self.new) }
     {
-        let bits = self.recording(worker, id, fields)?;
-        ask(&mut self.outlet, &mut self.recent.spare)?;
-        let what = Happening {
-            worker,
-            kind: Kind::OnRecord,
-            id,
-            bits,
-            seen: None,
+        if !are_keys(fields.read()) {
+            return Err(Fault::BadName);
+        }
+        let Some(span) = held_span(&self.forest, id) else {
+            return Err(Fault::Unknown);
         };
-        let Announced { call, notes } = push_fields(
-            &mut self.recent,
-            &self.rules,
-            &mut self.forest,
-            &what,
-            fields,
-        )?;
+        if self.calls == u64::MAX {
+            return Err(Fault::CountFull);
+        }
+        ask(&mut self.outlet, &mut self.recent.spare)?;
+        let found = FoundSpan { worker, id, span };
+        let kept = fields.keep(self.recent.alloc)?;
+        let recorded = record_told(&mut self.recent, &self.rules, &self.forest, &found, &kept)?;
+        let Announced { call, notes } = recorded;
+        append_fields(&mut self.forest, id, &kept)?;
         self.calls += 1;
         self.outlet.put(Batch {
             call,
@@ -162,7 +155,7 @@ impl<O: Outlet, A> Core<O, A> {
             return Err(Fault::CountFull);
         }
         ask(&mut self.outlet, &mut self.recent.spare)?;
-        let release = SeenSpan { worker, id, span };
+        let release = FoundSpan { worker, id, span };
         let closes = closes_on_release(&mut self.recent, &self.rules, &self.forest, &release)?;
         let Closes { ids, notes } = closes;
         give_back(&mut self.recent, &mut self.forest, id, ids.as_slice());
@@ -190,55 +183,19 @@ impl<O: Outlet, A> Core<O, A> {
         }
         Ok(())
     }
-
-    // The layers that admit the span to which fields are appended, or why they are refused.
-    fn recording(&self, worker: u32, id: Id, fields: &GivenFields<'_>) -> Result<Bits, Fault>
-        ensures due { OnOk result (IsDue self.now (record_fields worker id (fields_given fields.now))) }
-        ensures bits { IfOk result (λ bits. bits.0 ≡ bits_in self.now.world.spans id) }
-        ensures refused { IfErr result (λ fault. IsRefused self.now
-            (record_fields worker id (fields_given fields.now)) fault self.now) }
-    {
-        if !are_keys(fields.read()) {
-            return Err(Fault::BadName);
-        }
-        let Some(bits) = held_bits(&self.forest, id) else {
-            return Err(Fault::Unknown);
-        };
-        if self.calls == u64::MAX {
-            return Err(Fault::CountFull);
-        }
-        Ok(bits)
-    }
 }
 
-// The call that appends fields to those of a span, and its notes, once the fields are appended. They stay as they are
-// where memory is refused.
-fn push_fields(
-    recent: &mut Recent,
-    rules: &Rules,
-    forest: &mut Forest,
-    what: &Happening<'_>,
-    fields: &GivenFields<'_>,
-) -> Result<Announced, Fault>
-    requires held { IsHeld forest.old.spans what.now.id Handle }
-    requires bits { what.now.bits.0 ≡ bits_in forest.old.spans what.now.id }
-    requires seen { what.now.seen ≡ None }
-    requires remembers { Remembers forest.old recent.old.paths }
+// Appends fields to those of a span. They stay as they are where memory is refused.
+fn append_fields(forest: &mut Forest, id: Id, fields: &Fields) -> Result<(), Fault>
+    requires { IsHeld forest.old.spans id Handle }
     ensures forest { OnOk result (forest.new ≡ record forest.old {
-      spans = with_change (with_fields (fields_given fields.now)) forest.old.spans what.now.id;
+      spans = with_change (with_fields fields.now) forest.old.spans id;
     }) }
-    ensures call { IfOk result (λ told. request_of told.call
-        ≡ record_fields what.now.worker what.now.id (fields_given fields.now)) }
-    ensures notes { IfOk result (λ told. map plain_note told.notes.items ≡ notes_of rules.now what.now.worker
-        (at_span forest.old.spans what.now.kind what.now.id (fields_given fields.now))) }
     ensures unchanged { OnErr result (forest.new ≡ forest.old) }
-    ensures remembers { Remembers forest.new recent.new.paths }
     ensures memory { IfErr result (λ fault. fault ≡ Fault.Memory) }
 {
-    let fields = fields.keep(recent.alloc)?;
-    let told = record_told(recent, rules, forest, what, &fields)?;
-    let Ok(()) = forest.share_fields(what.id, &fields) else {
+    let Ok(()) = forest.share_fields(id, fields) else {
         return Err(Fault::Memory);
     };
-    Ok(told)
+    Ok(())
 }

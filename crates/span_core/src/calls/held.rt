@@ -8,7 +8,7 @@ ghost use Rattle.span_core.specs.Happening.{bits_in};
 ghost use Rattle.span_core.specs.Step.{is_open, has_handle};
 
 use span_forest::{Forest, Span};
-use span_id::{Bits, Id};
+use span_id::Id;
 
 // The span of an id of which a handle is out.
 pub(crate) fn held_span(forest: &Forest, id: Id) -> Option<&Span>
@@ -35,14 +35,4 @@ pub(crate) fn open_span(forest: &Forest, id: Id) -> Option<&Span>
     ensures not_open { IfNone result (is_open forest.now.spans id ≡ false) }
 {
     forest.find(id)
-}
-
-// The layers that admit a span of which a handle is out.
-pub(crate) fn held_bits(forest: &Forest, id: Id) -> Option<Bits>
-    ensures bits { IfSome result (λ bits. bits.0 ≡ bits_in forest.now.spans id) }
-    ensures known { OnSome result (has_handle forest.now.spans id ≡ true) }
-    ensures unknown { IfNone result (has_handle forest.now.spans id ≡ false) }
-{
-    let span = held_span(forest, id)?;
-    Some(span.bits)
 }

@@ -1,5 +1,5 @@
 //! The notes of spans that close, one after the other up a walk.
-ghost use Rattle.std.specs.Prelude.{◌≡◌, ◌<◌, ◌++◌, ◌∷◌, [], ℕ, List, map, flat_map, length, replicate, slice_get, slice_set, string_bytes, IfOk, OnOk, IfErr, IfSome, IsSomeAnd, Some, None};
+ghost use Rattle.std.specs.Prelude.{◌≡◌, ◌<◌, ◌++◌, ◌∷◌, [], ℕ, List, map, flat_map, length, replicate, slice_get, slice_set, IfOk, OnOk, IfErr, IfSome, IsSomeAnd, Some, None};
 ghost use Rattle.std.specs.Arc.{arc_str_bytes};
 ghost use Rattle.span_layers.specs.Note.{plain_note};
 ghost use Rattle.span_forest.specs.declared.span.Holder.{Holder};
@@ -14,8 +14,8 @@ ghost use Rattle.span_core.specs.inside.Telling.{Knows};
 ghost use Rattle.span_core.specs.inside.Remembering.{Remembers};
 
 use crate::notes::layers::{is_wanted, told_layers};
-use crate::notes::paths::{ToldPaths, same_text, seen_text};
-use crate::notes::{Happening, SeenSpan, push_notes};
+use crate::notes::paths::{SharedPaths, same_text, seen_text};
+use crate::notes::{FoundSpan, push_notes};
 use crate::recent::{Recent, empty_list};
 use span_forest::laws::{
     closing_list_begins_the_walk, held_ids_are_open, open_spans_are_counted, walks_end,
@@ -56,7 +56,7 @@ pub(crate) fn close_notes<'a>(
     recent: &mut Recent,
     rules: &Rules,
     forest: &'a Forest,
-    first: &SeenSpan<'a>,
+    first: &FoundSpan<'a>,
     closed: &[Id],
 ) -> Result<Vec<Note>, Fault>
     requires chain { IsChain forest.now.spans closed.now }
@@ -69,7 +69,7 @@ pub(crate) fn close_notes<'a>(
 {
     let count = closes_count(rules, forest, closed, first.span.bits);
     let mut notes = empty_list(recent.alloc, &mut recent.spare, count);
-    let mut paths = ToldPaths::none(recent.alloc);
+    let mut paths = SharedPaths::none(recent.alloc);
     push_closes(
         recent, &mut notes, &mut paths, rules, forest, first, closed, count,
     )?;
@@ -81,10 +81,10 @@ pub(crate) fn close_notes<'a>(
 pub(crate) fn push_closes<'a>(
     recent: &mut Recent,
     notes: &mut Vec<Note>,
-    paths: &mut ToldPaths,
+    paths: &mut SharedPaths,
     rules: &Rules,
     forest: &'a Forest,
-    first: &SeenSpan<'a>,
+    first: &FoundSpan<'a>,
     closed: &[Id],
     count: usize,
 ) -> Result<(), Fault>
@@ -109,7 +109,7 @@ pub(crate) fn push_closes<'a>(
     notes.reserve_exact(count)?;
     let mut places = no_places(recent.alloc, rules.len())?;
     for id in closed {
-        let what = SeenSpan {
+        let what = FoundSpan {
             worker: first.worker,
             id: *id,
             span: span_at(forest, first, *id),
@@ -120,7 +120,7 @@ pub(crate) fn push_closes<'a>(
 }
 
 // A span that closes with the first one: it is looked up, unless it is that one.
-fn span_at<'a>(forest: &'a Forest, first: &SeenSpan<'a>, id: Id) -> &'a Span
+fn span_at<'a>(forest: &'a Forest, first: &FoundSpan<'a>, id: Id) -> &'a Span
     requires found { find forest.now.spans first.now.id ≡ Some (node_of first.now.span.now) }
     requires open { IsOpen forest.now.spans id }
     ensures { find forest.now.spans id ≡ Some (node_of result.now) }
@@ -138,10 +138,10 @@ fn span_at<'a>(forest: &'a Forest, first: &SeenSpan<'a>, id: Id) -> &'a Span
 fn push_close_alone<'a>(
     recent: &mut Recent,
     notes: &mut Vec<Note>,
-    paths: &mut ToldPaths,
+    paths: &mut SharedPaths,
     rules: &Rules,
     forest: &'a Forest,
-    first: &SeenSpan<'a>,
+    first: &FoundSpan<'a>,
     id: Id,
 ) -> Result<(), Fault>
     requires found { find forest.now.spans first.now.id ≡ Some (node_of first.now.span.now) }
@@ -154,14 +154,19 @@ fn push_close_alone<'a>(
     ensures memory { IfErr result (λ fault. fault ≡ Fault.Memory) }
 {
     let span = span_at(forest, first, id);
-    let what = Happening {
-        worker: first.worker,
-        kind: Kind::OnClose,
-        id,
-        bits: span.bits,
-        seen: Some(span),
-    };
-    push_notes(recent, notes, paths, rules, forest, &what, &span.fields)
+    let worker = first.worker;
+    let found = FoundSpan { worker, id, span };
+    let kind = Kind::OnClose;
+    push_notes(
+        recent,
+        notes,
+        paths,
+        rules,
+        forest,
+        &found,
+        kind,
+        &span.fields,
+    )
 }
 
 // How many notes the layers are told of spans that close. These layers admit the first one, which isn't looked up.
@@ -199,10 +204,10 @@ fn push_close(
     recent: &mut Recent,
     notes: &mut Vec<Note>,
     places: &mut Vec<Option<Place>>,
-    paths: &mut ToldPaths,
+    paths: &mut SharedPaths,
     rules: &Rules,
     forest: &Forest,
-    what: &SeenSpan<'_>,
+    what: &FoundSpan<'_>,
 ) -> Result<(), Fault>
     requires length { length places.old.items ≡ length rules.now }
     requires found { find forest.now.spans what.now.id ≡ Some (node_of what.now.span.now) }
@@ -232,9 +237,9 @@ fn push_close_note(
     recent: &mut Recent,
     notes: &mut Vec<Note>,
     places: &mut Vec<Option<Place>>,
-    paths: &mut ToldPaths,
+    paths: &mut SharedPaths,
     forest: &Forest,
-    what: &SeenSpan<'_>,
+    what: &FoundSpan<'_>,
     layer: u32,
 ) -> Result<(), Fault>
     requires there { layer < length places.old.items }
@@ -284,8 +289,8 @@ fn close_note(
     recent: &mut Recent,
     forest: &Forest,
     before: Option<Below<'_>>,
-    what: &SeenSpan<'_>,
-    paths: &mut ToldPaths,
+    what: &FoundSpan<'_>,
+    paths: &mut SharedPaths,
     layer: u32,
 ) -> Result<Note, Fault>
     requires found { find forest.now.spans what.now.id ≡ Some (node_of what.now.span.now) }
@@ -317,8 +322,8 @@ fn close_path(
     recent: &mut Recent,
     forest: &Forest,
     before: Option<Below<'_>>,
-    what: &SeenSpan<'_>,
-    paths: &mut ToldPaths,
+    what: &FoundSpan<'_>,
+    paths: &mut SharedPaths,
     layer: u32,
 ) -> Result<ArcStr, Fault>
     requires found { find forest.now.spans what.now.id ≡ Some (node_of what.now.span.now) }

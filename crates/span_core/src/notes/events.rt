@@ -16,7 +16,7 @@ ghost use Rattle.span_core.specs.inside.Telling.{ids_around, AreSummarised};
 
 use crate::given::{GivenEvent, KeptEvent};
 use crate::notes::layers::is_told_to_none;
-use crate::notes::{Subject, Telling, told_to_some};
+use crate::notes::{Happening, Subject, told_to_some};
 use crate::recent::Recent;
 use crate::summary::{BLOCK, NEAR, Summary};
 use span_forest::Forest;
@@ -109,7 +109,7 @@ fn event_notes(
     ensures remembers { Remembers forest.now recent.new.paths }
     ensures memory { IfErr result (λ fault. fault ≡ Fault.Memory) }
 {
-    let what = Telling {
+    let what = Happening {
         worker: event.worker,
         kind: Kind::OnEvent,
         bits: event.bits,

@@ -10,7 +10,7 @@ ghost use Rattle.span_core.specs.inside.Lent.{first_note_of, span_request};
 ghost use Rattle.span_core.specs.inside.Remembering.{Remembers};
 
 use crate::given::{GivenFields, GivenMeta};
-use crate::notes::{Announced, Subject, Telling, told};
+use crate::notes::{Announced, Happening, Subject, told};
 use crate::recent::Recent;
 use span_forest::Forest;
 use span_id::{Bits, Fault, Fields, Id, SharedMeta};
@@ -78,7 +78,7 @@ fn new_notes(
     ensures remembers { Remembers forest.now recent.new.paths }
     ensures memory { IfErr result (λ fault. fault ≡ Fault.Memory) }
 {
-    let what = Telling {
+    let what = Happening {
         worker: new.worker,
         kind: Kind::OnNew,
         bits: new.bits,

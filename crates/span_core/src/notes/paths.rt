@@ -1,4 +1,4 @@
-//! The texts of the paths that a call tells its layers, each made once for all that see it.
+//! The texts of the paths that a call tells its layers, each made once and shared by all that see it.
 ghost use Rattle.std.specs.Prelude.{◌≡◌, ◌++◌, ◌∷◌, [], ℕ, List, Some, string_bytes, IsTrue, IfOk, IfErr, OnOk, IfSome, All};
 ghost use Rattle.std.specs.Arc.{arc_str_bytes};
 ghost use Rattle.span_id.specs.Bits.{has_bit};
@@ -17,23 +17,23 @@ use span_layers::Note;
 use std::alloc::Global;
 use std::sync::ArcStr;
 
-/// A path that was told: where it was read, layers that see it there, and its text.
+/// A path that a call has told: where it was read, layers that see it there, and its text.
 #[derive(Drop)]
-pub(crate) struct ToldPath {
+pub(crate) struct SharedPath {
     place: Option<Id>,
     same: Bits,
     text: ArcStr,
 }
 
-/// The paths that a call has told so far.
+/// The paths that a call has told so far, which further notes share.
 #[derive(Drop)]
-pub(crate) struct ToldPaths {
+pub(crate) struct SharedPaths {
     // Most calls tell one path, and take no list for it.
-    first: Option<ToldPath>,
-    further: Vec<ToldPath>,
+    first: Option<SharedPath>,
+    further: Vec<SharedPath>,
 }
 
-impl ToldPath {
+impl SharedPath {
     // The text, if the layer is among those of which it is known that they see it at this place.
     fn seen(&self, layer: u32, place: &Option<Id>) -> Option<&ArcStr>
         ensures { IfSome result (λ text. (told : List (List ℕ) → List ℕ) (spans : Spans) →
@@ -58,12 +58,12 @@ impl ToldPath {
     }
 }
 
-impl ToldPaths {
+impl SharedPaths {
     // None yet.
-    pub(crate) fn none(alloc: Global) -> ToldPaths
+    pub(crate) fn none(alloc: Global) -> SharedPaths
         ensures { (told : List (List ℕ) → List ℕ) (spans : Spans) → Knows told spans result }
     {
-        ToldPaths {
+        SharedPaths {
             first: None,
             further: Vec::new(alloc),
         }
@@ -111,7 +111,7 @@ impl ToldPaths {
     }
 
     // One more.
-    fn push(&mut self, path: ToldPath) -> Result<(), Fault>
+    fn push(&mut self, path: SharedPath) -> Result<(), Fault>
         ensures known { OnOk result ((told : List (List ℕ) → List ℕ) (spans : Spans) →
             KnowsPath told spans path → Knows told spans self.old → Knows told spans self.new) }
         ensures memory { IfErr result (λ fault. fault ≡ Fault.Memory) }
@@ -125,7 +125,7 @@ impl ToldPaths {
     }
 
     // One more, whose text is told now.
-    fn keep(&mut self, path: ToldPath) -> Result<ArcStr, Fault>
+    fn keep(&mut self, path: SharedPath) -> Result<ArcStr, Fault>
         ensures text { IfOk result (λ told. arc_str_bytes told ≡ arc_str_bytes path.text) }
         ensures known { OnOk result ((told : List (List ℕ) → List ℕ) (spans : Spans) →
             KnowsPath told spans path → Knows told spans self.old → Knows told spans self.new) }
@@ -147,7 +147,7 @@ impl ToldPaths {
     {
         let PathText { text, same } = seen;
         let text = self.shared(text)?;
-        self.keep(ToldPath {
+        self.keep(SharedPath {
             place: *place,
             same,
             text,
@@ -171,13 +171,13 @@ impl ToldPaths {
 pub(crate) fn seen_text(
     recent: &mut Recent,
     forest: &Forest,
-    paths: &mut ToldPaths,
+    paths: &mut SharedPaths,
     layer: u32,
     place: &Option<Id>,
-    seen: Option<&Span>,
+    found: Option<&Span>,
 ) -> Result<ArcStr, Fault>
     requires open { IfSome place.now (IsOpen forest.now.spans) }
-    requires seen { IfSome seen (IsAt forest.now.spans place.now) }
+    requires found { IfSome found (IsAt forest.now.spans place.now) }
     requires known { Knows path_text forest.now.spans paths.old }
     requires remembers { Remembers forest.now recent.old.paths }
     ensures text { IfOk result (λ text. arc_str_bytes text ≡ path_text (path_at layer forest.now.spans place.now)) }
@@ -191,7 +191,7 @@ pub(crate) fn seen_text(
     if let Some(text) = known_text(&recent.paths, forest, layer, place) {
         return Ok(text.clone()?);
     }
-    walked_text(recent, forest, paths, layer, place, seen)
+    walked_text(recent, forest, paths, layer, place, found)
 }
 
 // The text that an earlier call told of a layer's path at a span that is open. Where nothing is remembered nothing is
@@ -217,13 +217,13 @@ fn known_text<'a>(
 fn walked_text(
     recent: &mut Recent,
     forest: &Forest,
-    paths: &mut ToldPaths,
+    paths: &mut SharedPaths,
     layer: u32,
     place: &Option<Id>,
-    seen: Option<&Span>,
+    found: Option<&Span>,
 ) -> Result<ArcStr, Fault>
     requires open { IfSome place.now (IsOpen forest.now.spans) }
-    requires seen { IfSome seen (IsAt forest.now.spans place.now) }
+    requires found { IfSome found (IsAt forest.now.spans place.now) }
     requires known { Knows path_text forest.now.spans paths.old }
     requires remembers { Remembers forest.now recent.old.paths }
     ensures text { IfOk result (λ text. arc_str_bytes text ≡ path_text (path_at layer forest.now.spans place.now)) }
@@ -231,7 +231,7 @@ fn walked_text(
     ensures remembers { Remembers forest.now recent.new.paths }
     ensures memory { IfErr result (λ fault. fault ≡ Fault.Memory) }
 {
-    let seen = text_at(recent.alloc, forest, layer, place, seen)?;
+    let seen = text_at(recent.alloc, forest, layer, place, found)?;
     let text = paths.tell(place, seen)?;
     remember(&mut recent.paths, forest, layer, place, &text);
     Ok(text)
@@ -274,7 +274,7 @@ pub(crate) fn remember_new(recent: &mut Recent, forest: &Forest, id: Id, notes: 
 pub(crate) fn new_text(
     recent: &mut Recent,
     forest: &Forest,
-    paths: &mut ToldPaths,
+    paths: &mut SharedPaths,
     layer: u32,
     place: &Option<Id>,
     name: &str,
@@ -295,7 +295,7 @@ pub(crate) fn new_text(
 }
 
 // This text: the one that was told, where it is the same.
-pub(crate) fn same_text(alloc: Global, paths: &mut ToldPaths, text: &str) -> Result<ArcStr, Fault>
+pub(crate) fn same_text(alloc: Global, paths: &mut SharedPaths, text: &str) -> Result<ArcStr, Fault>
     ensures text { IfOk result (λ told. arc_str_bytes told ≡ text.now) }
     ensures known { OnOk result ((told : List (List ℕ) → List ℕ) (spans : Spans) →
         Knows told spans paths.old → Knows told spans paths.new) }
@@ -305,7 +305,7 @@ pub(crate) fn same_text(alloc: Global, paths: &mut ToldPaths, text: &str) -> Res
         return Ok(same.clone()?);
     }
     let text = ArcStr::from_str(alloc, text)?;
-    paths.keep(ToldPath {
+    paths.keep(SharedPath {
         place: None,
         same: Bits(0),
         text,
@@ -318,9 +318,9 @@ fn text_at(
     forest: &Forest,
     layer: u32,
     place: &Option<Id>,
-    seen: Option<&Span>,
+    found: Option<&Span>,
 ) -> Result<PathText, Fault>
-    requires seen { IfSome seen (IsAt forest.now.spans place.now) }
+    requires found { IfSome found (IsAt forest.now.spans place.now) }
     ensures text { IfOk result (λ seen. string_bytes seen.text ≡ path_text (path_at layer forest.now.spans place.now)) }
     ensures same { IfOk result (λ seen. (other : ℕ) → IsTrue (has_bit seen.same.0 other) →
         path_at other forest.now.spans place.now ≡ path_at layer forest.now.spans place.now) }
@@ -331,20 +331,20 @@ fn text_at(
         let same = Bits::all();
         return Ok(PathText { text, same });
     };
-    match walked(forest, layer, *id, seen) {
+    match walked(forest, layer, *id, found) {
         Ok(seen) => Ok(seen),
         Err(_) => Err(Fault::Memory),
     }
 }
 
 // The same at a span, by a walk which begins at the span itself if that is in hand.
-fn walked(forest: &Forest, layer: u32, id: Id, seen: Option<&Span>) -> Result<PathText, Fault>
-    requires { IfSome seen (IsAt forest.now.spans (Some id)) }
+fn walked(forest: &Forest, layer: u32, id: Id, found: Option<&Span>) -> Result<PathText, Fault>
+    requires { IfSome found (IsAt forest.now.spans (Some id)) }
     ensures text { IfOk result (λ seen. string_bytes seen.text ≡ path_text (path layer forest.now.spans id)) }
     ensures same { IfOk result (λ seen. (other : ℕ) → IsTrue (has_bit seen.same.0 other) →
         path other forest.now.spans id ≡ path layer forest.now.spans id) }
 {
-    match seen {
+    match found {
         Some(span) => forest.path_text_from(layer, id, span),
         None => forest.path_text(layer, id),
     }

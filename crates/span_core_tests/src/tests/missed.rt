@@ -34,8 +34,8 @@ fn first_refused(rt: &impl Abort, alloc: Global) -> Layers {
 
 #[test]
 fn a_note_whose_text_is_refused_memory(rt: HostRuntime) {
-    let (filters, tellers) = first_refused(&rt, rt.alloc()).split();
-    let outlet = Kept::new(rt.alloc(), tellers);
+    let (filters, formatting) = first_refused(&rt, rt.alloc()).split();
+    let outlet = Kept::new(rt.alloc(), formatting);
     let played = played_on(&rt, rt.alloc(), filters, outlet, &FIRST_REFUSED);
     ends(&rt, &played, FIRST_REFUSED.expected, (0, 1));
 }
@@ -46,8 +46,8 @@ const WITHOUT_FORM: &str =
 #[test]
 fn notes_of_a_layer_without_a_form(rt: HostRuntime) {
     let (filters, _) = layers(&rt, rt.alloc(), FIRST_REFUSED.plans).split();
-    let (_, tellers) = layers(&rt, rt.alloc(), &[EVERYTHING]).split();
-    let outlet = Kept::new(rt.alloc(), tellers);
+    let (_, formatting) = layers(&rt, rt.alloc(), &[EVERYTHING]).split();
+    let outlet = Kept::new(rt.alloc(), formatting);
     let played = played_on(&rt, rt.alloc(), filters, outlet, &FIRST_REFUSED);
     ends(&rt, &played, WITHOUT_FORM, (0, 4));
 }

@@ -62,10 +62,13 @@ pub(crate) fn ringed(
     layers: Layers,
 ) -> (Core<Ring>, Drain) {
     let checked = limits.check().expect(rt, "limits");
-    let (filters, tellers) = layers.split();
+    let (filters, formatting) = layers.split();
     let (ring, tap) = Ring::pair(alloc, &checked).expect(rt, "memory");
     let core = Core::new(alloc, &checked, filters, ring);
-    (core.expect(rt, "memory"), Drain::new(alloc, tap, tellers))
+    (
+        core.expect(rt, "memory"),
+        Drain::new(alloc, tap, formatting),
+    )
 }
 
 /// What a new core over a ring answers to these calls, and then the lines of its drain.

@@ -110,8 +110,8 @@ pub(crate) fn keeping<V: Say>(
 
 /// What a new core with these layers answers to the calls.
 pub(crate) fn played(rt: &impl Abort, alloc: Global, of: &Play) -> Transcript {
-    let (filters, tellers) = layers(rt, alloc, of.plans).split();
-    played_on(rt, alloc, filters, Kept::new(alloc, tellers), of)
+    let (filters, formatting) = layers(rt, alloc, of.plans).split();
+    played_on(rt, alloc, filters, Kept::new(alloc, formatting), of)
 }
 
 /// The same with these filters and this outlet.

@@ -146,7 +146,7 @@ fn tell<V: Say>(
 fn what_is_shared_is_told_and_kept(rt: HostRuntime) {
     let bad = shares_with(&rt, rt.alloc(), "no name", "");
     let good = shares_with(&rt, rt.alloc(), "k", "told");
-    let (filters, tellers) = layers(&rt, rt.alloc(), &[EVERYTHING]).split();
-    let outlet = Kept::new(rt.alloc(), tellers);
+    let (filters, formatting) = layers(&rt, rt.alloc(), &[EVERYTHING]).split();
+    let outlet = Kept::new(rt.alloc(), formatting);
     tell(&rt, rt.alloc(), filters, outlet, &bad, &good);
 }

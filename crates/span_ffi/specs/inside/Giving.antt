@@ -8,7 +8,7 @@ use Rattle.span_border.specs.Buffers.{WritesAll}
 use Rattle.span_ffi.specs.declared.data.SpanNote.{SpanNote}
 use Rattle.span_ffi.specs.declared.data.SpanField.{SpanField}
 use Rattle.span_ffi.specs.Details.{Filling}
-use Rattle.span_ffi.specs.Notes.{TellsNoteOf}
+use Rattle.span_ffi.specs.Notes.{AnswersNoteOf}
 
 -- as `GivesLine`, of the lines that wait already
 abbrev pub GivesFirst : ℕ → List ℕ → List ℕ → ℕ → LineReaderView → Status → LineReaderView → Type 0
@@ -24,7 +24,7 @@ GivesFirst layer into into' len old _ new = ⊥
 abbrev pub GivesFirstNote : SpanNote → Filling SpanField → Filling ℕ → LineReaderView → Status → LineReaderView → Type 0
 GivesFirstNote told fields bytes old Done new =
     (line : PlainLine) × (old ≡ record new { given = old.given; waiting = line ∷ new.waiting })
-    × (new.given ≡ old.given ++ line ∷ []) × TellsNoteOf new line told fields bytes Done
+    × (new.given ≡ old.given ++ line ∷ []) × AnswersNoteOf new line told fields bytes Done
 GivesFirstNote told fields bytes old NoLine new = (new ≡ old) × (new.waiting ≡ [])
 GivesFirstNote told fields bytes old status new =
-    (new ≡ old) × IsSomeAnd (slice_get new.waiting 0) (λ line. TellsNoteOf new line told fields bytes status)
+    (new ≡ old) × IsSomeAnd (slice_get new.waiting 0) (λ line. AnswersNoteOf new line told fields bytes status)

@@ -8,7 +8,7 @@ ghost use Rattle.span_core.specs.Core.{IsAccepted, IsRefused};
 ghost use Rattle.span_border.specs.Status.{meant};
 ghost use Rattle.span_border.specs.Ends.{OnHeld, Keeps};
 ghost use Rattle.span_ffi.specs.Registry.{OnCore};
-ghost use Rattle.span_ffi.specs.Closing.{WritesFirst, TellsClosed, ExitsClosing, ReleasesClosing};
+ghost use Rattle.span_ffi.specs.Closing.{WritesFirst, AnswersClosed, ExitsClosing, ReleasesClosing};
 
 use crate::exports::callers::{has_worker, id_of};
 use crate::registry::RingCore;
@@ -63,7 +63,7 @@ fn exit_into(
     ensures same_buffer { closed.new.into.ghost_name ≡ closed.old.into.ghost_name }
     ensures accepted { OnOk result (IsAccepted core.old (exit worker id)
         (exited (closed_by_exit core.old.world worker id)) core.new) }
-    ensures told { OnOk result (TellsClosed id (closed_by_exit core.old.world worker id) closed.old.into.now
+    ensures told { OnOk result (AnswersClosed id (closed_by_exit core.old.world worker id) closed.old.into.now
         closed.new.into.now closed.new.len core.new) }
     ensures refused { IfErr result (λ fault. IsRefused core.old (exit worker id) fault core.new) }
     ensures unwritten { OnErr result (closed.new.into.now ≡ closed.old.into.now) }
@@ -137,7 +137,7 @@ fn try_close_into(
     ensures same_buffer { closed.new.into.ghost_name ≡ closed.old.into.ghost_name }
     ensures accepted { OnOk result (IsAccepted core.old (try_close worker id)
         (released (closing_list core.old.world.spans id Handle)) core.new) }
-    ensures told { OnOk result (TellsClosed id (closing_list core.old.world.spans id Handle) closed.old.into.now
+    ensures told { OnOk result (AnswersClosed id (closing_list core.old.world.spans id Handle) closed.old.into.now
         closed.new.into.now closed.new.len core.new) }
     ensures refused { IfErr result (λ fault. IsRefused core.old (try_close worker id) fault core.new) }
     ensures unwritten { OnErr result (closed.new.into.now ≡ closed.old.into.now) }

@@ -6,7 +6,7 @@ ghost use Rattle.span_border.specs.Status.{meant};
 ghost use Rattle.span_border.specs.Ends.{OnHeld, Keeps};
 ghost use Rattle.span_border.specs.Buffers.{KeepsNumbers};
 ghost use Rattle.span_ffi.specs.Registry.{OnCore};
-ghost use Rattle.span_ffi.specs.Details.{are_short, TellsSaid, TellsWhatWasSaid};
+ghost use Rattle.span_ffi.specs.Details.{are_short, AnswersSaid, AnswersWhatWasSaid};
 
 use crate::data::{SpanField, SpanMeta};
 use crate::exports::callers::id_of;
@@ -39,7 +39,7 @@ fn tell_span(
     into: &mut [u8],
     len: &mut usize,
 ) -> Status
-    ensures said { TellsSaid (node_of span.now) meta.new (record { old = fields.old; new = fields.new; len = count.new })
+    ensures said { AnswersSaid (node_of span.now) meta.new (record { old = fields.old; new = fields.new; len = count.new })
         (record { old = into.old; new = into.new; len = len.new }) result }
     ensures meta { Keeps (Some result) meta.old meta.new }
     ensures fields { Keeps (Some result) fields.old fields.new }
@@ -74,7 +74,7 @@ fn details(
     into: &mut [u8],
     len: &mut usize,
 ) -> Status
-    ensures said { TellsWhatWasSaid id meta.new (record { old = fields.old; new = fields.new; len = count.new })
+    ensures said { AnswersWhatWasSaid id meta.new (record { old = fields.old; new = fields.new; len = count.new })
         (record { old = into.old; new = into.new; len = len.new }) core.now result core.now }
     ensures meta { Keeps (Some result) meta.old meta.new }
     ensures fields { Keeps (Some result) fields.old fields.new }
@@ -107,7 +107,7 @@ pub extern "C" fn span_registry_details(
     into: &mut [u8],
     len: &mut usize,
 ) -> u32
-    ensures said { OnHeld registry.old.held (OnCore (TellsWhatWasSaid id meta.new
+    ensures said { OnHeld registry.old.held (OnCore (AnswersWhatWasSaid id meta.new
         (record { old = fields.old; new = fields.new; len = count.new })
         (record { old = into.old; new = into.new; len = len.new }))) (meant result) registry.new.held }
     ensures meta { Keeps (meant result) meta.old meta.new }

@@ -4,19 +4,19 @@ ghost use Rattle.span_border.specs.Status.{meant};
 ghost use Rattle.span_ffi.specs.Registry.{OnCore};
 ghost use Rattle.span_border.specs.Ends.{OnHeld, Keeps};
 ghost use Rattle.span_border.specs.Buffers.{KeepsNumbers};
-ghost use Rattle.span_ffi.specs.Holding.{held_as, TellsOpen, TellsHolders, TellsWorkers};
+ghost use Rattle.span_ffi.specs.Holding.{held_as, AnswersOpen, AnswersHolders, AnswersWorkers};
 
 use crate::data::SpanHeld;
 use crate::exports::callers::id_of;
 use crate::registry::RingCore;
 use crate::registry_handle::SpanRegistry;
-use span_border::{Holds, Status, ToldOf, write_all, write_ids, write_told};
+use span_border::{Holds, InC, Status, write_all, write_ids, write_in_c};
 use span_forest::Held;
 use span_id::Fault;
 use std::alloc::Global;
 
 fn open_ids(core: &RingCore, into: &mut [u64], len: &mut usize) -> Status
-    ensures ids { TellsOpen into.old into.new len.new core.now result core.now }
+    ensures ids { AnswersOpen into.old into.new len.new core.now result core.now }
     ensures into { Keeps (Some result) into.old into.new }
     ensures len { KeepsNumbers (Some result) len.old len.new }
 {
@@ -35,7 +35,7 @@ pub extern "C" fn span_registry_open_ids(
     into: &mut [u64],
     len: &mut usize,
 ) -> u32
-    ensures ids { OnHeld registry.old.held (OnCore (TellsOpen into.old into.new len.new)) (meant result)
+    ensures ids { OnHeld registry.old.held (OnCore (AnswersOpen into.old into.new len.new)) (meant result)
         registry.new.held }
     ensures into { Keeps (meant result) into.old into.new }
     ensures len { KeepsNumbers (meant result) len.old len.new }
@@ -48,10 +48,10 @@ pub extern "C" fn span_registry_open_ids(
     status.number()
 }
 
-impl ToldOf<Held> for SpanHeld {
-    ghost told = { held_as };
+impl InC<Held> for SpanHeld {
+    ghost in_c = { held_as };
 
-    fn told_of(held: &Held) -> SpanHeld {
+    fn to_c(held: &Held) -> SpanHeld {
         SpanHeld {
             id: held.id.get(),
             handles: held.handles,
@@ -61,7 +61,7 @@ impl ToldOf<Held> for SpanHeld {
 }
 
 fn holders_of(core: &RingCore, id: u64, into: &mut [SpanHeld], len: &mut usize) -> Status
-    ensures holders { TellsHolders id into.old into.new len.new core.now result core.now }
+    ensures holders { AnswersHolders id into.old into.new len.new core.now result core.now }
     ensures into { Keeps (Some result) into.old into.new }
     ensures len { KeepsNumbers (Some result) len.old len.new }
 {
@@ -69,7 +69,7 @@ fn holders_of(core: &RingCore, id: u64, into: &mut [SpanHeld], len: &mut usize) 
         return Status::Refused(Fault::Unknown);
     };
     match core.holders_of(id) {
-        Ok(held) => write_told(held.as_slice(), into, len),
+        Ok(held) => write_in_c(held.as_slice(), into, len),
         Err(fault) => Status::Refused(fault),
     }
 }
@@ -85,7 +85,7 @@ pub extern "C" fn span_registry_holders_of(
     into: &mut [SpanHeld],
     len: &mut usize,
 ) -> u32
-    ensures holders { OnHeld registry.old.held (OnCore (TellsHolders id into.old into.new len.new)) (meant result)
+    ensures holders { OnHeld registry.old.held (OnCore (AnswersHolders id into.old into.new len.new)) (meant result)
         registry.new.held }
     ensures into { Keeps (meant result) into.old into.new }
     ensures len { KeepsNumbers (meant result) len.old len.new }
@@ -99,7 +99,7 @@ pub extern "C" fn span_registry_holders_of(
 }
 
 fn workers_inside(core: &RingCore, id: u64, into: &mut [u32], len: &mut usize) -> Status
-    ensures workers { TellsWorkers id into.old into.new len.new core.now result core.now }
+    ensures workers { AnswersWorkers id into.old into.new len.new core.now result core.now }
     ensures into { Keeps (Some result) into.old into.new }
     ensures len { KeepsNumbers (Some result) len.old len.new }
 {
@@ -126,7 +126,7 @@ pub extern "C" fn span_registry_workers_inside(
     into: &mut [u32],
     len: &mut usize,
 ) -> u32
-    ensures workers { OnHeld registry.old.held (OnCore (TellsWorkers id into.old into.new len.new)) (meant result)
+    ensures workers { OnHeld registry.old.held (OnCore (AnswersWorkers id into.old into.new len.new)) (meant result)
         registry.new.held }
     ensures into { Keeps (meant result) into.old into.new }
     ensures len { KeepsNumbers (meant result) len.old len.new }

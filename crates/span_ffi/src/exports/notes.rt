@@ -5,7 +5,7 @@ ghost use Rattle.span_border.specs.Status.{meant};
 ghost use Rattle.span_border.specs.Ends.{OnHeld, Keeps};
 ghost use Rattle.span_border.specs.Buffers.{KeepsNumbers};
 ghost use Rattle.span_ffi.specs.Details.{are_short};
-ghost use Rattle.span_ffi.specs.Notes.{kind_number, level_number, message_in, note_numbers, TellsNote, GivesNote};
+ghost use Rattle.span_ffi.specs.Notes.{kind_number, level_number, message_in, note_numbers, AnswersNote, GivesNote};
 ghost use Rattle.span_ffi.specs.inside.Giving.{GivesFirstNote};
 
 use crate::data::{SpanField, SpanNote};
@@ -73,7 +73,7 @@ fn tell_note(
     into: &mut [u8],
     len: &mut usize,
 ) -> Status
-    ensures note { TellsNote batch (plain_note note.now) told.new
+    ensures note { AnswersNote batch (plain_note note.now) told.new
         (record { old = fields.old; new = fields.new; len = count.new })
         (record { old = into.old; new = into.new; len = len.new }) result }
     ensures told { KeepsNumbers (Some result) told.old told.new }

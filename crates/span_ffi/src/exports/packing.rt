@@ -3,7 +3,7 @@ ghost use Rattle.std.specs.Prelude.{◌≡◌, ◌<◌, ◌≤◌, ◌+◌, ◌^
 ghost use Rattle.std.specs.List.{list_all};
 ghost use Rattle.std.specs.Str.{IsUtf8};
 ghost use Rattle.span_id.specs.Meta.{plain_fields, key_value};
-ghost use Rattle.span_ffi.specs.Details.{packed, are_short, are_tellable, field_lengths};
+ghost use Rattle.span_ffi.specs.Details.{packed, are_short, texts_fit_in_c, field_lengths};
 ghost use Rattle.span_ffi.specs.inside.Packing.{AreTexts, WritesAt};
 
 use crate::data::SpanField;
@@ -21,7 +21,7 @@ fn pair_len(first: &str, second: &str) -> Option<usize>
 
 /// How long two texts and those of fields are. None: one is too long for its number, or all together are.
 pub(crate) fn texts_len(first: &str, second: &str, fields: &[Field]) -> Option<usize>
-    ensures exact { is_some result ≡ are_tellable ((first.now, second.now) ∷ plain_fields fields.now) }
+    ensures exact { is_some result ≡ texts_fit_in_c ((first.now, second.now) ∷ plain_fields fields.now) }
     ensures len { IfSome result (λ len. len ≡ length (packed ((first.now, second.now) ∷ plain_fields fields.now))) }
 {
     let mut len = pair_len(first, second)?;

@@ -4,7 +4,7 @@ ghost use Rattle.span_border.specs.Status.{meant};
 ghost use Rattle.span_ffi.specs.Registry.{OnCore};
 ghost use Rattle.span_border.specs.Ends.{OnHeld, Keeps};
 ghost use Rattle.span_ffi.specs.Calls.{Finds, SeesCurrent, Counts};
-ghost use Rattle.span_ffi.specs.Questions.{SeesEntry, TellsLayers, TellsTimesFull};
+ghost use Rattle.span_ffi.specs.Questions.{SeesEntry, AnswersLayers, AnswersTimesFull};
 
 use crate::data::{SpanCounts, SpanFound};
 use crate::exports::callers::{has_worker, id_of};
@@ -55,7 +55,7 @@ pub extern "C" fn span_registry_find(
 }
 
 fn layers_of(core: &RingCore, id: u64, layers: &mut u64) -> Status
-    ensures layers { TellsLayers id layers.new core.now result core.now }
+    ensures layers { AnswersLayers id layers.new core.now result core.now }
     ensures kept { Keeps (Some result) layers.old layers.new }
 {
     layers_admit_spans_by_their_rules(core);
@@ -77,7 +77,7 @@ pub extern "C" fn span_registry_layers_of(
     id: u64,
     layers: &mut u64,
 ) -> u32
-    ensures layers { OnHeld registry.old.held (OnCore (TellsLayers id layers.new)) (meant result) registry.new.held }
+    ensures layers { OnHeld registry.old.held (OnCore (AnswersLayers id layers.new)) (meant result) registry.new.held }
     ensures kept { Keeps (meant result) layers.old layers.new }
 {
     let Some(held) = registry.take(alloc) else {
@@ -163,7 +163,7 @@ pub extern "C" fn span_registry_times_full(
     registry: &mut SpanRegistry,
     times: &mut u64,
 ) -> u32
-    ensures times { OnHeld registry.old.held (OnCore (TellsTimesFull times.new)) (meant result) registry.new.held }
+    ensures times { OnHeld registry.old.held (OnCore (AnswersTimesFull times.new)) (meant result) registry.new.held }
     ensures kept { Keeps (meant result) times.old times.new }
 {
     let Some(held) = registry.take(alloc) else {

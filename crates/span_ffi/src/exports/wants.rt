@@ -3,7 +3,7 @@ ghost use Rattle.std.specs.Prelude.{◌≡◌, Some, IfOk, string_bytes};
 ghost use Rattle.span_border.specs.Status.{meant};
 ghost use Rattle.span_border.specs.Ends.{OnHeld, Keeps};
 ghost use Rattle.span_ffi.specs.Registry.{OnCore, WithCallsites};
-ghost use Rattle.span_ffi.specs.Wants.{TellsWanted, TellsWantedAt, levels_up_to, TellsLevels};
+ghost use Rattle.span_ffi.specs.Wants.{AnswersWanted, AnswersWantedAt, levels_up_to, AnswersLevels};
 
 use crate::callsites::Callsites;
 use crate::reading::read_level;
@@ -28,7 +28,7 @@ fn asked(alloc: Global, level: Level, target: &str) -> Result<Meta, AllocError>
 }
 
 fn wants(alloc: Global, core: &RingCore, level: u32, target: &[u8], wanted: &mut u32) -> Status
-    ensures wanted { TellsWanted level target.now wanted.new core.now result core.now }
+    ensures wanted { AnswersWanted level target.now wanted.new core.now result core.now }
     ensures kept { Keeps (Some result) wanted.old wanted.new }
 {
     let Some(level) = read_level(level) else {
@@ -56,7 +56,7 @@ pub extern "C" fn span_registry_wants(
     target: &[u8],
     wanted: &mut u32,
 ) -> u32
-    ensures wanted { OnHeld registry.old.held (OnCore (TellsWanted level target.now wanted.new)) (meant result)
+    ensures wanted { OnHeld registry.old.held (OnCore (AnswersWanted level target.now wanted.new)) (meant result)
         registry.new.held }
     ensures kept { Keeps (meant result) wanted.old wanted.new }
 {
@@ -69,7 +69,7 @@ pub extern "C" fn span_registry_wants(
 }
 
 fn callsite_wants(core: &RingCore, callsites: &Callsites, callsite: u32, wanted: &mut u32) -> Status
-    ensures wanted { TellsWantedAt callsite wanted.new callsites.now core.now result core.now }
+    ensures wanted { AnswersWantedAt callsite wanted.new callsites.now core.now result core.now }
     ensures kept { Keeps (Some result) wanted.old wanted.new }
 {
     let Some(meta) = callsites.get(callsite) else {
@@ -87,7 +87,7 @@ pub extern "C" fn span_registry_callsite_wants(
     callsite: u32,
     wanted: &mut u32,
 ) -> u32
-    ensures wanted { OnHeld registry.old.held (WithCallsites (TellsWantedAt callsite wanted.new)) (meant result)
+    ensures wanted { OnHeld registry.old.held (WithCallsites (AnswersWantedAt callsite wanted.new)) (meant result)
         registry.new.held }
     ensures kept { Keeps (meant result) wanted.old wanted.new }
 {
@@ -110,7 +110,7 @@ fn levels_up_to(level: Option<Level>) -> u32
 }
 
 fn levels_of(core: &RingCore) -> u32
-    ensures { TellsLevels result core.now Status.Done core.now }
+    ensures { AnswersLevels result core.now Status.Done core.now }
 {
     levels_up_to(core.max_level())
 }
@@ -124,7 +124,7 @@ pub extern "C" fn span_registry_max_level(
     registry: &mut SpanRegistry,
     levels: &mut u32,
 ) -> u32
-    ensures levels { OnHeld registry.old.held (OnCore (TellsLevels levels.new)) (meant result) registry.new.held }
+    ensures levels { OnHeld registry.old.held (OnCore (AnswersLevels levels.new)) (meant result) registry.new.held }
     ensures kept { Keeps (meant result) levels.old levels.new }
 {
     let Some(held) = registry.take(alloc) else {

@@ -1,17 +1,17 @@
 -- The marks of the spans at an id or below it, for the functions inside this crate: no public clause cites it.
 use Rattle.std.specs.Prelude.{ℕ, ◌≡◌, ◌≢◌, ◌<◌, ◌==◌, ◌⊎◌, Bool, true, cond, is_some, IsTrue, List, [], ◌∷◌, length, get_or, Option, Some, None}
 use Rattle.span_id.specs.Id.{slot_of}
+use Rattle.span_id.specs.Ids.{has}
 use Rattle.span_forest.specs.Spans.{Spans, IsOpen, parent_of}
 use Rattle.span_forest.specs.Node.{Node}
 use Rattle.span_forest.specs.Count.{is_held}
 use Rattle.span_forest.specs.Holding.{held_of}
 use Rattle.span_forest.specs.declared.holding.Held.{Held}
 use Rattle.span_forest.specs.Walk.{walk}
-use Rattle.span_forest.specs.Live.{stands_in}
 
 -- the span is the id, or below it
 abbrev pub is_below : Spans → ℕ → ℕ → Bool
-is_below spans id x = stands_in id (walk spans x)
+is_below spans id x = has (walk spans x) id
 
 -- what is known of a span: of the id itself that it is there
 abbrev pub known_of : List (Option Bool) → ℕ → ℕ → Option Bool

@@ -2,6 +2,7 @@
 ghost use Rattle.std.specs.Prelude.{◌≡◌, ◌≢◌, ℕ, ◌<◌, ◌≤◌, ◌↔◌, ◌⊎◌, [], false, Some, None, IfSome, IsTrue, All, AllPairs, Contains, List, length, map, take};
 ghost use Rattle.std.specs.List.Sorted.{IsStrictlyIncreasing};
 ghost use Rattle.span_id.specs.Id.{id_of, slot_of, IsId};
+ghost use Rattle.span_id.specs.Ids.{has};
 ghost use Rattle.span_slots.specs.Table.{IsIssued, IsFull, find, all_ids};
 ghost use Rattle.span_forest.specs.declared.span.Holder.{Holder};
 ghost use Rattle.span_forest.specs.Node.{Node};
@@ -9,7 +10,7 @@ ghost use Rattle.span_forest.specs.Add.{with_span};
 ghost use Rattle.span_forest.specs.Spans.{IsOpen, IsOccupied, parent_of};
 ghost use Rattle.span_forest.specs.Walk.{walk, Ends};
 ghost use Rattle.span_forest.specs.Count.{holders_in, reference_count, total_held};
-ghost use Rattle.span_forest.specs.Live.{stands_in, is_live};
+ghost use Rattle.span_forest.specs.Live.{is_live};
 ghost use Rattle.span_forest.specs.Forest.{IsForest, next_span_id, table_of};
 ghost use Rattle.span_forest.specs.Holders.{IsHeld, held_in};
 ghost use Rattle.span_forest.specs.declared.holding.Held.{Held};
@@ -126,7 +127,7 @@ pub fn full_where_each_slot_is_used_up(forest: &Forest)
 pub fn release_closes_its_list(forest: &Forest)
     ensures { (id span : ℕ) (holder : Holder) → IsHeld forest.now.spans id holder →
         IsOpen forest.now.spans span →
-        (IsTrue (stands_in span (closing_list forest.now.spans id holder))
+        (IsTrue (has (closing_list forest.now.spans id holder) span)
         ↔ (find (spans_left forest.now.spans id holder) span ≡ None)) }
 {
     let _opened = &forest.slots;
@@ -136,13 +137,13 @@ pub fn release_closes_its_list(forest: &Forest)
 /// span of the list was open, and each other span stays as it was but for the holder that was given back.
 pub fn release_closes_what_nothing_holds(forest: &Forest)
     ensures was_open { (id span : ℕ) (holder : Holder) → IsHeld forest.now.spans id holder →
-        IsTrue (stands_in span (closing_list forest.now.spans id holder)) → IsOpen forest.now.spans span }
+        IsTrue (has (closing_list forest.now.spans id holder) span) → IsOpen forest.now.spans span }
     ensures not_live { (id span : ℕ) (holder : Holder) → IsHeld forest.now.spans id holder →
         IsOpen forest.now.spans span →
-        (IsTrue (stands_in span (closing_list forest.now.spans id holder))
+        (IsTrue (has (closing_list forest.now.spans id holder) span)
         ↔ (is_live (without_holder forest.now.spans id holder) span ≡ false)) }
     ensures others { (id span : ℕ) (holder : Holder) → IsHeld forest.now.spans id holder →
-        (IsTrue (stands_in span (closing_list forest.now.spans id holder)) → ⊥) →
+        (IsTrue (has (closing_list forest.now.spans id holder) span) → ⊥) →
         find (spans_left forest.now.spans id holder) span ≡ find (without_holder forest.now.spans id holder) span }
 {
     let _opened = &forest.slots;
@@ -173,11 +174,11 @@ pub fn closing_list_begins_the_walk(forest: &Forest)
 pub fn what_is_held_stays_open(forest: &Forest)
     ensures holder { (id span : ℕ) (holder : Holder) → IsHeld forest.now.spans id holder →
         0 < holders_in (find (without_holder forest.now.spans id holder) span) →
-        (IsTrue (stands_in span (closing_list forest.now.spans id holder)) → ⊥) }
+        (IsTrue (has (closing_list forest.now.spans id holder) span) → ⊥) }
     ensures child { (id child parent : ℕ) (holder : Holder) → IsHeld forest.now.spans id holder →
         parent_of forest.now.spans child ≡ Some parent →
         IsOpen (spans_left forest.now.spans id holder) child →
-        (IsTrue (stands_in parent (closing_list forest.now.spans id holder)) → ⊥) }
+        (IsTrue (has (closing_list forest.now.spans id holder) parent) → ⊥) }
 {
     let _opened = &forest.slots;
 }

@@ -5,11 +5,11 @@ ghost use Rattle.span_outlet.specs.Batch.{PlainBatch};
 ghost use Rattle.span_forest.specs.declared.span.Holder.TheVariants.{Handle};
 ghost use Rattle.span_forest.specs.Node.{node_of};
 ghost use Rattle.span_forest.specs.Spans.{find, IsOpen};
-ghost use Rattle.span_forest.specs.Live.{stands_in};
 ghost use Rattle.span_forest.specs.Count.{reference_count, total_handles};
 ghost use Rattle.span_forest.specs.Holders.{IsHeld};
 ghost use Rattle.span_forest.specs.Holding.{held_spans};
 ghost use Rattle.span_id.specs.Id.{slot_of};
+ghost use Rattle.span_id.specs.Ids.{has};
 ghost use Rattle.span_core.specs.World.{World, IsCounted};
 ghost use Rattle.span_core.specs.ClosedSpans.{closed_in};
 ghost use Rattle.span_core.specs.History.{IsLegal};
@@ -44,7 +44,7 @@ pub fn the_promise<H: Ledger, C: Ledger, S: Setup, O: Outlet, A>(
     ensures found { IfSome result.0 (λ span. find locked.now.world.spans id ≡ Some (node_of span.now)) }
     ensures counted { IfSome result.0 (λ span. IsCounted locked.now.world id span.now) }
     ensures bounded { IfSome result.0 (λ span. span.now.count ≤ S.limits.max_count) }
-    ensures closed { IsTrue (stands_in id (closed_in locked.now.sent)) → result.0 ≡ None }
+    ensures closed { IsTrue (has (closed_in locked.now.sent) id) → result.0 ≡ None }
     ensures ledgered { result.1.now.total ≡ total_handles locked.now.world.spans }
 {
     open_spans_were_made_and_not_closed(&locked.core);

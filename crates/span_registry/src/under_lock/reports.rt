@@ -9,7 +9,7 @@ ghost use Rattle.span_core.specs.World.{entries_in};
 ghost use Rattle.span_core.specs.History.{IsLegal};
 ghost use Rattle.span_history.specs.Own.{IsFront};
 ghost use Rattle.span_registry.specs.Share.{IsWhole};
-ghost use Rattle.span_registry.specs.Report.{AreCounts, IsWithin, HasEnded, Tells};
+ghost use Rattle.span_registry.specs.Report.{AreCounts, IsWithin, HasEnded, IsReportOf};
 
 use crate::locked::Locked;
 use crate::report::{Counts, Report};
@@ -38,7 +38,7 @@ pub fn finish_kept<H: Ledger, C: Ledger, S: Setup, V: Say + Drop, A: Drop>(
     ensures within { IsWithin S.limits locked }
     ensures fronts { length share.seen ≡ S.limits.workers }
     ensures seen { All (λ front. IsFront front locked.sent) share.seen }
-    ensures told { Tells locked S.forms result }
+    ensures report { IsReportOf locked S.forms result }
     ensures units { result.handles ≡ share.units }
     ensures accepted { result.calls ≡ share.accepted }
     ensures emptied { share.units ≡ 0 → entries_in locked.world.stacks ≡ 0 → locked.world.spans ≡ [] }
@@ -69,7 +69,7 @@ pub fn finish<H: Ledger, C: Ledger, S: Setup, V: Say + Drop, A: Drop>(
     ensures within { IsWithin S.limits locked }
     ensures fronts { length share.seen ≡ S.limits.workers }
     ensures seen { All (λ front. IsFront front locked.sent) share.seen }
-    ensures told { Tells locked drain.forms result }
+    ensures report { IsReportOf locked drain.forms result }
     ensures taken { IsPrefix drain.taken locked.sent }
     ensures first { IsPrefix drain.lines (map plain_line result.lines.items) }
     ensures units { result.handles ≡ share.units }

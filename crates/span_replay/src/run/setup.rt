@@ -140,12 +140,12 @@ impl<A: Drop, F: Drop> Setup<A, F> {
     pub fn split(self) -> (Opened, Admitters<A>, Formatters<F>)
         ensures { opened_in result.0 (setup_state self).stage ≡ setup_state self }
     {
-        let (filters, tellers) = self.layers.split();
+        let (filters, formatting) = self.layers.split();
         let opened = Opened {
             checked: self.checked,
             rules: filters.rules,
-            forms: tellers.forms,
+            forms: formatting.forms,
         };
-        (opened, filters.admitters, tellers.formatters)
+        (opened, filters.admitters, formatting.formatters)
     }
 }

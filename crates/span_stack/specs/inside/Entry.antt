@@ -1,8 +1,9 @@
 -- What a stack keeps for each entered span: no public clause cites it.
 use Rattle.std.specs.Prelude.{◌≡◌, ℕ, ◌-◌, ◌≤◌, not, List, [], ◌∷◌, ◌++◌, false, length, reverse, map, filter}
 use Rattle.smallvec.specs.SmallVec.{SmallVec}
+use Rattle.span_id.specs.Ids.{has}
 use Rattle.span_stack.specs.declared.entry.Entry.{Entry}
-use Rattle.span_stack.specs.Stack.{Stack, has}
+use Rattle.span_stack.specs.Stack.{Stack}
 
 -- the ids of the entries
 abbrev pub ids_of : List Entry → List ℕ

@@ -3,18 +3,18 @@ ghost use Rattle.std.specs.Prelude.{Some};
 ghost use Rattle.span_border.specs.Status.{meant};
 ghost use Rattle.span_border.specs.Ends.{OnHeld, Keeps};
 ghost use Rattle.span_border.specs.Buffers.{KeepsNumbers};
-ghost use Rattle.span_store_ffi.specs.Details.{details_as, TellsDetails};
+ghost use Rattle.span_store_ffi.specs.Details.{details_as, AnswersDetails};
 
 use crate::data::SpanStoreDetails;
 use crate::handle::SpanStore;
-use span_border::{Holds, Status, ToldOf, id_number, write_told};
+use span_border::{Holds, InC, Status, id_number, write_in_c};
 use span_store::{SpanDetails, Store};
 use std::alloc::Global;
 
-impl ToldOf<SpanDetails> for SpanStoreDetails {
-    ghost told = { details_as };
+impl InC<SpanDetails> for SpanStoreDetails {
+    ghost in_c = { details_as };
 
-    fn told_of(one: &SpanDetails) -> SpanStoreDetails {
+    fn to_c(one: &SpanDetails) -> SpanStoreDetails {
         SpanStoreDetails {
             id: one.id.get(),
             parent: id_number(one.parent),
@@ -27,12 +27,12 @@ impl ToldOf<SpanDetails> for SpanStoreDetails {
 }
 
 fn details(store: &Store, into: &mut [SpanStoreDetails], len: &mut usize) -> Status
-    ensures details { TellsDetails into.old into.new len.new store.now result store.now }
+    ensures details { AnswersDetails into.old into.new len.new store.now result store.now }
     ensures into { Keeps (Some result) into.old into.new }
     ensures len { KeepsNumbers (Some result) len.old len.new }
 {
     match store.span_details() {
-        Ok(details) => write_told(details.as_slice(), into, len),
+        Ok(details) => write_in_c(details.as_slice(), into, len),
         Err(fault) => Status::Refused(fault),
     }
 }
@@ -46,7 +46,7 @@ pub extern "C" fn span_store_details(
     into: &mut [SpanStoreDetails],
     len: &mut usize,
 ) -> u32
-    ensures details { OnHeld store.old.held (TellsDetails into.old into.new len.new) (meant result) store.new.held }
+    ensures details { OnHeld store.old.held (AnswersDetails into.old into.new len.new) (meant result) store.new.held }
     ensures into { Keeps (meant result) into.old into.new }
     ensures len { KeepsNumbers (meant result) len.old len.new }
 {

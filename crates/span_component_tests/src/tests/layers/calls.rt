@@ -5,7 +5,7 @@ use crate::tests::hooks::hooks;
 use crate::tests::layers::fixtures::{admission, note, tells};
 use crate::watch::{Noting, Refused, Watch};
 use span_id::{Fault, Level};
-use span_layers::{Filters, Form, Kind, Layers, Say, Tellers};
+use span_layers::{Filters, Form, Formatting, Kind, Layers, Say};
 use std::alloc::Global;
 use std::process::Abort;
 
@@ -23,7 +23,7 @@ pub(crate) fn noting_layers(
     alloc: Global,
     calls: &Watch,
     layers: &[(Form, Digits)],
-) -> (Filters, Tellers) {
+) -> (Filters, Formatting) {
     let mut made = Layers::new(alloc);
     for (form, (of_rule, of_note)) in layers {
         let noting = Noting::Digits(*of_rule, *of_note);
@@ -38,7 +38,7 @@ pub(crate) fn noting_layers(
 /// The form of each layer, and the digits of its closures.
 static TWO: [(Form, Digits); 2] = [(Form::Compact, (1, 2)), (Form::Json, (3, 4))];
 
-fn two_layers(rt: &impl Abort, alloc: Global, calls: &Watch) -> (Filters, Tellers) {
+fn two_layers(rt: &impl Abort, alloc: Global, calls: &Watch) -> (Filters, Formatting) {
     noting_layers(rt, alloc, calls, &TWO)
 }
 
@@ -64,12 +64,12 @@ fn asks_each(rt: &impl Abort, alloc: Global, calls: &Watch, filters: &Filters) {
 fn a_layer_writes_its_own_notes(rt: HostRuntime) {
     let alloc = rt.alloc();
     let calls = no_calls(&rt, alloc, Refused::At(Kind::OnExit));
-    let (_, tellers) = two_layers(&rt, alloc, &calls);
-    let tellers = crosses_threads(tellers);
-    asks_one(&rt, alloc, &calls, &tellers);
-    asks_none(&rt, alloc, &tellers.formatters);
+    let (_, formatting) = two_layers(&rt, alloc, &calls);
+    let formatting = crosses_threads(formatting);
+    asks_one(&rt, alloc, &calls, &formatting);
+    asks_none(&rt, alloc, &formatting.formatters);
     same(&rt, calls.taken(), 0, "no call");
-    is_refused(&rt, alloc, &tellers);
+    is_refused(&rt, alloc, &formatting);
 }
 
 const COMPACT: &str = "new 1 w3 a k=1";
@@ -84,9 +84,9 @@ static ASKED: [(u32, &str, u64); 4] = [
     (0, COMPACT, 2),
 ];
 
-fn asks_one(rt: &impl Abort, alloc: Global, calls: &Watch, tellers: &Tellers) {
+fn asks_one(rt: &impl Abort, alloc: Global, calls: &Watch, formatting: &Formatting) {
     for (layer, want, digit) in &ASKED {
-        tells(rt, alloc, tellers, *layer, want);
+        tells(rt, alloc, formatting, *layer, want);
         same(rt, calls.taken(), *digit, *layer);
     }
 }
@@ -99,9 +99,14 @@ fn asks_none<S: Say>(rt: &impl Abort, alloc: Global, formatters: &S) {
 }
 
 // A text that the layer's closure was refused memory for is `Memory`.
-fn is_refused(rt: &impl Abort, alloc: Global, tellers: &Tellers) {
+fn is_refused(rt: &impl Abort, alloc: Global, formatting: &Formatting) {
     let mut note = note(rt, alloc, 0);
     note.kind = Kind::OnExit;
-    assert!(rt; (note.layer as usize) < tellers.len());
-    same(rt, tellers.say(&note).err(), Some(Fault::Memory), "a note");
+    assert!(rt; (note.layer as usize) < formatting.len());
+    same(
+        rt,
+        formatting.say(&note).err(),
+        Some(Fault::Memory),
+        "a note",
+    );
 }

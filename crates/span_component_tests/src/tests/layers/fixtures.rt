@@ -2,7 +2,7 @@
 use crate::tests::compare::same;
 use crate::values::{list, meta};
 use span_id::{Bits, Fields, Level};
-use span_layers::{Filters, Kind, Note, Tellers};
+use span_layers::{Filters, Formatting, Kind, Note};
 use std::alloc::Global;
 use std::process::Abort;
 use std::sync::ArcStr;
@@ -48,9 +48,15 @@ pub(crate) fn note(rt: &impl Abort, alloc: Global, layer: u32) -> Note {
 }
 
 /// Whether the layer of this number writes its note so.
-pub(crate) fn tells(rt: &impl Abort, alloc: Global, tellers: &Tellers, layer: u32, want: &str) {
+pub(crate) fn tells(
+    rt: &impl Abort,
+    alloc: Global,
+    formatting: &Formatting,
+    layer: u32,
+    want: &str,
+) {
     let note = note(rt, alloc, layer);
-    assert!(rt; (note.layer as usize) < tellers.len());
-    let text = tellers.say(&note).expect(rt, "memory");
+    assert!(rt; (note.layer as usize) < formatting.len());
+    let text = formatting.say(&note).expect(rt, "memory");
     same(rt, text.as_slice(), want.as_bytes(), layer);
 }

@@ -63,12 +63,12 @@ fn have_forms(rt: &impl Abort, forms: &Forms) {
 #[test]
 fn layers_without_closures_admit_and_tell(rt: HostRuntime) {
     let alloc = rt.alloc();
-    let (filters, tellers) = plain_layers(alloc, &PLANS).expect(&rt, "layers").split();
+    let (filters, formatting) = plain_layers(alloc, &PLANS).expect(&rt, "layers").split();
     for case in &CASES {
         admit(&rt, alloc, &filters.rules, &filters.admitters, case);
     }
     for told in &TOLD {
-        say(&rt, alloc, &tellers.formatters, told);
+        say(&rt, alloc, &formatting.formatters, told);
     }
-    have_forms(&rt, &tellers.forms);
+    have_forms(&rt, &formatting.forms);
 }

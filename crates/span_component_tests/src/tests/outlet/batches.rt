@@ -7,7 +7,7 @@ use crate::tests::compare::{id, same};
 use crate::tests::hooks::add_plan;
 use crate::watch::Refused;
 use span_id::{Fields, Level, Limits};
-use span_layers::{Form, Kind, Layers, Note, Tellers};
+use span_layers::{Form, Formatting, Kind, Layers, Note};
 use span_outlet::{Batch, Call, Drain, Outlet, Reply, Ring, Tap};
 use std::alloc::Global;
 use std::process::Abort;
@@ -25,8 +25,8 @@ pub(crate) const THREE_LINES: &str =
 2 1 0 {"fields":[],"id":1,"kind":"exit","path":"a","worker":0}
 "#;
 
-/// Tellers of layers with these forms. Notes of new spans are refused memory.
-pub(crate) fn tellers(rt: &impl Abort, alloc: Global, forms: &[Form]) -> Tellers {
+/// Formatting of layers with these forms. Notes of new spans are refused memory.
+pub(crate) fn formatting(rt: &impl Abort, alloc: Global, forms: &[Form]) -> Formatting {
     let mut layers = Layers::new(alloc);
     for form in forms {
         let plan = (*form, Wanted::All, "", Level::Trace);
@@ -54,7 +54,7 @@ pub(crate) fn opened(rt: &impl Abort, alloc: Global, places: u32, forms: &[Form]
     ensures { result.0.sent ≡ [] }
 {
     let (ring, tap) = pair(rt, alloc, places);
-    (ring, Drain::new(alloc, tap, tellers(rt, alloc, forms)))
+    (ring, Drain::new(alloc, tap, formatting(rt, alloc, forms)))
 }
 
 /// Sends a batch where there is room, and answers whether there was.

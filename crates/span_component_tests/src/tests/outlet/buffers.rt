@@ -2,7 +2,7 @@
 ghost use Rattle.std.specs.Prelude.{◌≡◌, ◌+◌, ◌-◌, ◌^◌, ◌<◌, ◌≤◌, [], length};
 
 use crate::tests::compare::{holds, same};
-use crate::tests::outlet::batches::{FORMS, batch_of, send, tellers};
+use crate::tests::outlet::batches::{FORMS, batch_of, formatting, send};
 use span_id::{Fields, Level};
 use span_layers::{Form, Kind, Note, Say, text};
 use span_outlet::{Latest, Line, Outlet};
@@ -45,7 +45,7 @@ impl Say for Exact {
 fn with_room(rt: &impl Abort, alloc: Global, room: usize) -> Latest<Exact>
     ensures { result.sent ≡ [] }
 {
-    let forms = tellers(rt, alloc, &FORMS).forms;
+    let forms = formatting(rt, alloc, &FORMS).forms;
     Latest::with_formatters(alloc, forms, Exact { alloc, room })
 }
 

@@ -5,7 +5,7 @@ use crate::tests::compare::{holds, same};
 use crate::tests::layers::calls::{Digits, no_calls, noting_layers};
 use crate::tests::outlet::batches::{pair, sends};
 use crate::watch::{Refused, Watch};
-use span_layers::{Form, Kind, Tellers};
+use span_layers::{Form, Formatting, Kind};
 use span_outlet::{Drain, Kept, Latest, LineReader, Outlet, Ring, Tap};
 use std::alloc::Global;
 use std::process::Abort;
@@ -18,8 +18,8 @@ static FOUR: [(Form, Digits); 4] = [
     (Form::Compact, (9, 4)),
 ];
 
-// Tellers of four layers, whose closures write down their digits. Texts of new spans are refused memory.
-fn four_tellers(rt: &impl Abort, alloc: Global, calls: &Watch) -> Tellers {
+// Formatting of four layers, whose closures write down their digits. Texts of new spans are refused memory.
+fn formatting_of_four(rt: &impl Abort, alloc: Global, calls: &Watch) -> Formatting {
     noting_layers(rt, alloc, calls, &FOUR).1
 }
 
@@ -58,7 +58,7 @@ fn sends_all<O: Outlet>(rt: &impl Abort, alloc: Global, calls: &Watch, outlet: &
 fn an_outlet_that_keeps_batches_asks_once(rt: HostRuntime) {
     let alloc = rt.alloc();
     let calls = no_calls(&rt, alloc, Refused::At(Kind::OnNew));
-    let mut kept = Kept::new(alloc, four_tellers(&rt, alloc, &calls));
+    let mut kept = Kept::new(alloc, formatting_of_four(&rt, alloc, &calls));
     sends_all(&rt, alloc, &calls, &mut kept, true);
     same(&rt, kept.missed(), MISSED, "missed notes");
 }
@@ -68,7 +68,7 @@ fn an_outlet_that_keeps_batches_asks_once(rt: HostRuntime) {
 fn an_outlet_that_has_the_last_lines_asks_once(rt: HostRuntime) {
     let alloc = rt.alloc();
     let calls = no_calls(&rt, alloc, Refused::At(Kind::OnNew));
-    let mut latest = Latest::new(alloc, four_tellers(&rt, alloc, &calls));
+    let mut latest = Latest::new(alloc, formatting_of_four(&rt, alloc, &calls));
     sends_all(&rt, alloc, &calls, &mut latest, true);
     let counts = (latest.sent(), latest.missed());
     same(&rt, counts, (7, MISSED), "batches and missed notes");
@@ -101,7 +101,7 @@ fn a_drain_asks_once(rt: HostRuntime) {
     let alloc = rt.alloc();
     let calls = no_calls(&rt, alloc, Refused::At(Kind::OnNew));
     let (mut ring, tap) = sent(&rt, alloc, &calls);
-    let mut drain = Drain::new(alloc, tap, four_tellers(&rt, alloc, &calls));
+    let mut drain = Drain::new(alloc, tap, formatting_of_four(&rt, alloc, &calls));
     takes_all(&rt, &calls, &mut ring, &mut drain);
     same(&rt, drain.into_lines().len(), 17, "lines");
 }
@@ -126,7 +126,7 @@ fn a_reader_asks_once(rt: HostRuntime) {
     let alloc = rt.alloc();
     let calls = no_calls(&rt, alloc, Refused::At(Kind::OnNew));
     let (_ring, tap) = sent(&rt, alloc, &calls);
-    let mut reader = LineReader::new(alloc, tap, four_tellers(&rt, alloc, &calls));
+    let mut reader = LineReader::new(alloc, tap, formatting_of_four(&rt, alloc, &calls));
     reads_all(&rt, &calls, &mut reader);
 }
 

@@ -97,7 +97,7 @@ static PLAYS: [Play; 4] = [
             Act::LinesOf(2, ""),
         ],
     ),
-    // Two of three layers have no teller, and then a note's text is refused memory.
+    // Two of three layers have no form, and then a note's text is refused memory.
     (
         8,
         &[Form::Compact],

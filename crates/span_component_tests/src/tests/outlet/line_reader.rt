@@ -3,7 +3,7 @@ ghost use Rattle.std.specs.Prelude.{◌≡◌, []};
 
 use crate::lines::push_line;
 use crate::tests::compare::{crosses_threads, same};
-use crate::tests::outlet::batches::{FORMS, THREE_LINES, pair, sends, tellers};
+use crate::tests::outlet::batches::{FORMS, THREE_LINES, formatting, pair, sends};
 use span_layers::{Form, Kind, Say};
 use span_outlet::{LineReader, Ring};
 use std::alloc::Global;
@@ -15,7 +15,7 @@ fn opened(rt: &impl Abort, alloc: Global, places: u32, forms: &[Form]) -> (Ring,
     ensures pair { result.0.name ≡ result.1.name }
 {
     let (ring, tap) = pair(rt, alloc, places);
-    let reader = LineReader::new(alloc, tap, tellers(rt, alloc, forms));
+    let reader = LineReader::new(alloc, tap, formatting(rt, alloc, forms));
     (ring, reader)
 }
 

@@ -1,9 +1,10 @@
 use Rattle.std.proofs.Common.{◌≡◌, ◌∙◌, ◌<◌, ℕ, cond, List, [], true, length, map, get_or, set, sym, ap, refl, subst, arith}
 use Rattle.std.proofs.lemmas.Bool.{lt-ltb}
+use Rattle.span_id.specs.Ids.{has}
 use Rattle.span_layers.specs.Note.{plain_note}
 use Rattle.span_forest.specs.declared.span.Holder.TheVariants.{Entry}
 use Rattle.span_forest.specs.Release.{closing_list}
-use Rattle.span_stack.specs.Stack.{has, without_last, ids_of_each}
+use Rattle.span_stack.specs.Stack.{without_last, ids_of_each}
 use Rattle.span_outlet.specs.Request.{exit, exited}
 use Rattle.span_outlet.specs.Batch.{PlainBatch}
 use Rattle.span_core.specs.World.{stack_of}

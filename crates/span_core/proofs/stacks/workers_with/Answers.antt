@@ -1,6 +1,7 @@
 use Rattle.std.proofs.Common.{◌≡◌, [], sym, ap, ◌∙◌}
 use Rattle.std.specs.Prelude.{slice_index_or}
-use Rattle.span_stack.specs.Stack.{has, ids_of_each}
+use Rattle.span_id.specs.Ids.{has}
+use Rattle.span_stack.specs.Stack.{ids_of_each}
 use Rattle.span_core.proofs.StackLists.{ids_at}
 use Rattle.span_core.proofs.WorkersInside.{first_inside, first_outside}
 use Rattle.span_core.proofs.stacks.workers_with.Goals as goal

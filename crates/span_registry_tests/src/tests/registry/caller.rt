@@ -7,7 +7,7 @@ ghost use Rattle.span_registry.specs.Worker.{IsNew};
 use crate::tests::registry::layers::meta_of;
 use crate::tests::registry::same::same;
 use span_id::{Fault, Level, Limits, Meta};
-use span_layers::{Filters, Layers, Say, Tellers};
+use span_layers::{Filters, Formatting, Layers, Say};
 use span_registry::{Blanks, Kept, ParentOf, RefusedClose, Registry, Report, Setup, Share, Worker};
 use std::alloc::Global;
 use std::marker::Brand;
@@ -19,7 +19,7 @@ pub fn one_span<R: Wait>(
     rt: &R,
     alloc: Global,
     filters: Filters,
-    tellers: Tellers,
+    formatting: Formatting,
     meta: &Meta,
 ) -> Result<Report, Fault> {
     let limits = Limits {
@@ -27,7 +27,7 @@ pub fn one_span<R: Wait>(
         ..Limits::default()
     };
     let blanks = Blanks::new(alloc, &limits.check()?)?;
-    let outlet = Kept::new(alloc, tellers);
+    let outlet = Kept::new(alloc, formatting);
     run::<Brand, Brand, Brand, _, _>(rt, alloc, filters, outlet, meta, blanks)
 }
 
@@ -87,8 +87,8 @@ fn work<H: Ledger, C: Ledger, S: Setup, V: Say, R: Wait>(
 fn one_worker_makes_a_span(rt: HostRuntime) {
     let alloc = rt.alloc();
     let meta = meta_of(&rt, alloc, "a", "app", Level::Info);
-    let (filters, tellers) = Layers::new(alloc).split();
-    let report = one_span(&rt, alloc, filters, tellers, &meta).expect(&rt, "a report");
+    let (filters, formatting) = Layers::new(alloc).split();
+    let report = one_span(&rt, alloc, filters, formatting, &meta).expect(&rt, "a report");
     let counts = (report.calls, report.made, report.closed, report.left);
     same(&rt, counts, (2, 1, 1, 0));
 }

@@ -86,7 +86,7 @@ pub(crate) fn run_to_last_line<R: Threads + Wait + Abort + Sync>(
     let checked = limits.check().expect(rt, "limits");
     let blanks = Blanks::new(alloc, &checked).expect(rt, "memory");
     let (ring, tap) = Ring::pair(alloc, &checked).expect(rt, "memory");
-    let (filters, tellers) = layers(rt, alloc, plans);
-    let reader = LineReader::new(alloc, tap, tellers);
+    let (filters, formatting) = layers(rt, alloc, plans);
+    let reader = LineReader::new(alloc, tap, formatting);
     named::<Brand, Brand, Brand, R>(rt, alloc, filters, ring, reader, blanks, turns)
 }

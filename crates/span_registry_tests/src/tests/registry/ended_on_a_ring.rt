@@ -72,7 +72,7 @@ pub(crate) fn run_to_end<R: Wait + Abort>(
     let checked = limits.check().expect(rt, "limits");
     let blanks = Blanks::new(alloc, &checked).expect(rt, "memory");
     let (ring, tap) = Ring::pair(alloc, &checked).expect(rt, "memory");
-    let (filters, tellers) = layers(rt, alloc, plans);
-    let drain = Drain::new(alloc, tap, tellers);
+    let (filters, formatting) = layers(rt, alloc, plans);
+    let drain = Drain::new(alloc, tap, formatting);
     named::<Brand, Brand, Brand, R>(rt, alloc, filters, ring, drain, blanks, acts, answers)
 }

@@ -2,8 +2,8 @@
 
 use span_id::{Field, Level, Meta};
 use span_layers::{
-    Admitters, ByForm, ByRule, Filters, FmtSpan, Form, Formatters, Hooks, Layer, Layers, Rule,
-    Style, Tellers,
+    Admitters, ByForm, ByRule, Filters, FmtSpan, Form, Formatters, Formatting, Hooks, Layer,
+    Layers, Rule, Style,
 };
 use span_registry::{Drain, LineReader, Registry};
 use std::alloc::Global;
@@ -56,7 +56,7 @@ pub(crate) fn layers(
     rt: &impl Abort,
     alloc: Global,
     plans: &[Plan],
-) -> (Filters<ByRule>, Tellers<ByForm>) {
+) -> (Filters<ByRule>, Formatting<ByForm>) {
     let mut layers = Layers::new(alloc);
     for plan in plans {
         let added = layers.add(layer(rt, alloc, plan)).ok();

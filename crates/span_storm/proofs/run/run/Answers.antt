@@ -9,7 +9,7 @@ use Rattle.span_outlet.specs.Outlet.{RingName}
 use Rattle.span_registry.specs.declared.report.Report.{Report}
 use Rattle.span_registry.specs.Worker.{WorkerView, IsNew}
 use Rattle.span_registry.specs.Share.{ShareView}
-use Rattle.span_registry.specs.Report.{IsDrainedEnd, Tells}
+use Rattle.span_registry.specs.Report.{IsDrainedEnd, IsReportOf}
 use Rattle.span_storm.specs.Storm.{IsStormEnd, IsStormFault}
 use Rattle.span_storm.specs.declared.fault.StormFault.{StormFault}
 use Rattle.span_storm.specs.declared.fault.StormFault.TheVariants.{Memory, Refused, Held}
@@ -39,7 +39,7 @@ storm_end limits rounds rules forms drain ring share workers report same name pl
       each = λ worker low. (made worker low).0;
       rounds_are = λ worker low. (made worker low).1;
       emptied = world_is_empty rules limits.workers rounds _ _ ended.legal (λ worker low. (made worker low).0) (λ worker low. (made worker low).1) (ended.emptied all.units);
-      told = subst (λ f. Tells end.end.core f report) same end.end.told;
+      report_is = subst (λ f. IsReportOf end.end.core f report) same end.end.report_is;
     }
 
 pub returns-clause-ended : goal.returns-clause-ended

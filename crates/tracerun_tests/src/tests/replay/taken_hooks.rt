@@ -205,8 +205,8 @@ fn compare(rt: &impl Abort, alloc: Global, count: usize, lines: usize) {
     let calls = Arc::new(alloc, AtomicU64::new(0)).expect(rt, "memory");
     let hooks = all_hooks(rt, alloc, &calls, count);
     let layers = layers_with(rt, alloc, hooks, lines);
-    let (filters, tellers) = layers.split();
-    calls_on_core(rt, alloc, filters, Kept::new(alloc, tellers));
+    let (filters, formatting) = layers.split();
+    calls_on_core(rt, alloc, filters, Kept::new(alloc, formatting));
     let want = calls.swap(0, Ordering::SeqCst);
     ran(rt, alloc, &calls, count, lines);
     let called = calls.load(Ordering::SeqCst);

@@ -3,7 +3,7 @@ use Rattle.std.proofs.lemmas.List.{length-map}
 use Rattle.span_id.specs.Level.{verbosity}
 use Rattle.span_id.specs.Meta.{PlainMeta, KeyValue, key_value, plain_fields}
 use Rattle.span_forest.specs.Node.{node_of}
-use Rattle.span_ffi.specs.Details.{text_pairs, packed, are_tellable, field_lengths}
+use Rattle.span_ffi.specs.Details.{text_pairs, packed, texts_fit_in_c, field_lengths}
 use Rattle.span_ffi.specs.inside.Packing.{AreTexts, WritesAt}
 use Rattle.span_ffi.proofs.Packing.{meta_lengths, same_numbers, filled, filled_texts, tells_said}
 use Rattle.span_ffi.proofs.exports.details.tell_span.Goals as goal
@@ -26,7 +26,7 @@ returns-clause-said c =
     (c.meta_lengths.ensures.target ∙ ap (λ (m : PlainMeta). length m.target) meta) in
     let count_is : length list ≡ length node.fields = sym (length-map list key_value) ∙ ap length c.as_slice-list.ensures in
     tells_said node c.meta_lengths.result _ _
-    (subst (λ (ps : List KeyValue). are_tellable ps ≡ true) pairs_are (sym c.in-Some.ensures.exact))
+    (subst (λ (ps : List KeyValue). texts_fit_in_c ps ≡ true) pairs_are (sym c.in-Some.ensures.exact))
     (subst (All AreTexts) pairs_are c.write_texts.ensures.utf8) meta_is
     (filled c.args.fields.now c.write_lengths.new.into (map field_lengths node.fields) (length list)
     (count_is ∙ sym (length-map node.fields field_lengths)) c.if-list-fields.false

@@ -2,7 +2,7 @@ use Rattle.std.proofs.Common.{◌≡◌, true, ◌∷◌, ◌∙◌, List, lengt
 use Rattle.std.proofs.lemmas.List.{length-map}
 use Rattle.span_id.specs.Meta.{KeyValue, key_value, plain_fields}
 use Rattle.span_layers.specs.Note.{plain_note}
-use Rattle.span_ffi.specs.Details.{packed, are_tellable, field_lengths}
+use Rattle.span_ffi.specs.Details.{packed, texts_fit_in_c, field_lengths}
 use Rattle.span_ffi.specs.Notes.{message_in, note_pairs}
 use Rattle.span_ffi.specs.inside.Packing.{WritesAt}
 use Rattle.span_ffi.proofs.Packing.{filled}
@@ -21,7 +21,7 @@ returns-clause-note c =
     let len_is = c.in-Some.ensures.len ∙ ap (λ ps. length (packed ps)) pairs_are in
     let written =
     subst (λ (ps : List KeyValue). WritesAt (packed ps) 0 c.args.into.now c.write_texts.new.into (length (packed ps))) pairs_are c.write_texts.ensures.written in (
-      subst (λ (ps : List KeyValue). are_tellable ps ≡ true) pairs_are (sym c.in-Some.ensures.exact),
+      subst (λ (ps : List KeyValue). texts_fit_in_c ps ≡ true) pairs_are (sym c.in-Some.ensures.exact),
       c.note_numbers.ensures,
       filled c.args.fields.now c.write_lengths.new.into (map field_lengths note.fields) (length list) count_is c.if-list-fields.false
           (c.write_lengths.ensures.lengths ∙ ap (map field_lengths) c.as_slice-list.ensures) c.write_lengths.ensures.behind,

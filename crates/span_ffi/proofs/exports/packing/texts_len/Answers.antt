@@ -3,7 +3,7 @@ use Rattle.std.proofs.lemmas.Bool.{cases_lt}
 use Rattle.std.proofs.lemmas.List.{drop_all}
 use Rattle.span_id.specs.Meta.{key_value, plain_fields}
 use Rattle.span_ffi.specs.Details.{are_short}
-use Rattle.span_ffi.proofs.Packing.{measured, measured_tellable, measured_packed, measured_long, measured_over, none_from, some_from}
+use Rattle.span_ffi.proofs.Packing.{measured, measured_fit, measured_packed, measured_long, measured_over, none_from, some_from}
 use Rattle.span_ffi.proofs.exports.packing.texts_len.Goals as goal
 
 pub returns-in_err-more-clause-exact : goal.returns-in_err-more-clause-exact
@@ -19,7 +19,7 @@ returns-in_err-more-clause-exact c =
     let none : measured (2 ^ 64) 0 pairs ≡ None =
     sym c.loop-field.invariant.left
     ∙ measured_long (2 ^ 64) c.loop-field.len c.args.fields.now c.loop-field.field-index x c.loop-field-test.true c.field-item.is long in
-    ap is_some c.from_residual-in_err-more.ensures ∙ (ap is_some (sym none) ∙ measured_tellable pairs)
+    ap is_some c.from_residual-in_err-more.ensures ∙ (ap is_some (sym none) ∙ measured_fit pairs)
 
 pub returns-in_err-len-2-clause-exact : goal.returns-in_err-len-2-clause-exact
 returns-in_err-len-2-clause-exact c =
@@ -40,7 +40,7 @@ returns-in_err-len-2-clause-exact c =
     let none : measured (2 ^ 64) 0 pairs ≡ None =
     sym c.loop-field.invariant.left
     ∙ measured_over (2 ^ 64) c.loop-field.len c.args.fields.now c.loop-field.field-index x c.loop-field-test.true c.field-item.is over in
-    ap is_some c.from_residual-in_err-len-2.ensures ∙ (ap is_some (sym none) ∙ measured_tellable pairs)
+    ap is_some c.from_residual-in_err-len-2.ensures ∙ (ap is_some (sym none) ∙ measured_fit pairs)
 
 pub returns-clause-exact : goal.returns-clause-exact
 returns-clause-exact c =
@@ -48,7 +48,7 @@ returns-clause-exact c =
     let xs = c.args.fields.now in
     let all : Some c.loop-field.len ≡ measured (2 ^ 64) 0 pairs =
     ap (λ v. measured (2 ^ 64) c.loop-field.len (plain_fields v)) (sym (drop_all c.loop-field.field-index xs c.loop-field-test.false)) ∙ c.loop-field.invariant.left in
-    ap is_some all ∙ measured_tellable pairs
+    ap is_some all ∙ measured_fit pairs
 
 pub returns-clause-len : goal.returns-clause-len
 returns-clause-len c =

@@ -3,7 +3,7 @@ use Rattle.std.specs.List.{list_any}
 use Rattle.std.proofs.lemmas.Iterator.{YieldsList-from_slice}
 use Rattle.std.proofs.lemmas.Iterator.Search.{any_from_yields_List}
 use borrow.Author.Tests.{tests}
-use Rattle.span_stack.specs.Stack.{has}
+use Rattle.span_id.specs.Ids.{has}
 use Rattle.span_stack.proofs.Entries.{has-ids_of}
 use Rattle.span_stack.proofs.stack.SpanStack.has.Goals as goal
 

@@ -1,5 +1,6 @@
 use Rattle.std.proofs.Common.{not, arith, ap, subst, sym, ◌∙◌}
-use Rattle.span_stack.specs.Stack.{has, without_last}
+use Rattle.span_id.specs.Ids.{has}
+use Rattle.span_stack.specs.Stack.{without_last}
 use Rattle.span_stack.specs.inside.Entry.{ids_of, IsLastPlace}
 use Rattle.span_stack.proofs.Stacks.{without_last-absent}
 use Rattle.span_stack.proofs.Removals.{ids_of-remove, AreFlagged-remove, duplicate-last}

@@ -1,5 +1,5 @@
 use Rattle.std.proofs.Common.{◌≡◌, ◌-◌, [], ◌∷◌, arith, length, ap, sym, ◌∙◌, length-append}
-use Rattle.span_stack.specs.Stack.{has}
+use Rattle.span_id.specs.Ids.{has}
 use Rattle.span_stack.specs.inside.Entry.{ids_of}
 use Rattle.span_stack.proofs.Entries.{AreFlagged-push, or_false}
 use Rattle.span_stack.proofs.stack.SpanStack.put.Goals as goal

@@ -1,5 +1,6 @@
 use Rattle.std.proofs.Common.{not, ap, subst, sym, ◌∙◌}
-use Rattle.span_stack.specs.Stack.{has, without_last}
+use Rattle.span_id.specs.Ids.{has}
+use Rattle.span_stack.specs.Stack.{without_last}
 use Rattle.span_stack.specs.inside.Entry.{IsLastPlace}
 use Rattle.span_stack.proofs.Removals.{once-last}
 use Rattle.span_stack.proofs.stack.SpanStack.would_pop.Goals as goal

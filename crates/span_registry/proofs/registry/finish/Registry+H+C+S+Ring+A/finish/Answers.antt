@@ -16,7 +16,7 @@ returns-clause-ended g c =
           seen_are = made.seen;
           emptied = made.emptied;
         };
-        told = made.told;
+        report_is = made.report;
       };
       ring_is = made.setup.2 ∙ sym c.requires.pair;
       taken = made.taken;

@@ -2,7 +2,7 @@ use Rattle.std.proofs.Common.{[], ◌∷◌, subst, sym}
 use Rattle.std.specs.List.{All}
 use Rattle.std.proofs.lemmas.List.Elements.{All-append, All-cons, All-nil}
 use Rattle.span_core.specs.inside.Telling.{KnowsPath}
-use Rattle.span_core.proofs.notes.paths.ToldPaths.push.Goals as goal
+use Rattle.span_core.proofs.notes.paths.SharedPaths.push.Goals as goal
 
 pub returns-in_ok-push-clause-known : goal.returns-in_ok-push-clause-known
 returns-in_ok-push-clause-known c =
