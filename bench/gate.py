@@ -24,7 +24,7 @@ import parts  # noqa: E402
 
 CLOCK = r"(\d+) min (\d\d) s"
 PART = re.compile(rf"(.*): \d+ passed, \d+ failed, {CLOCK}, {CLOCK} of processors$")
-ALL = re.compile(rf"in all {CLOCK}, and {CLOCK} of processors$")
+ALL = re.compile(rf"in all {CLOCK}, and {CLOCK} of the \d+ processors$")
 KEPT = "not compared in this run"
 
 

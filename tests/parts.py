@@ -175,8 +175,8 @@ def main():
             end_all()
     for it in ended:
         print(f"{it.name}: {it.passed} passed, {it.failed} failed, {clock(it.seconds)}, {clock(it.cpu)} of processors")
-    used = resource.getrusage(resource.RUSAGE_CHILDREN)
-    print(f"in all {clock(time.monotonic() - start)}, and {clock(used.ru_utime + used.ru_stime)} of processors")
+    cpu = clock(sum(resource.getrusage(resource.RUSAGE_CHILDREN)[:2]))  # (the program's own seconds, and the system's)
+    print(f"in all {clock(time.monotonic() - start)}, and {cpu} of the {len(os.sched_getaffinity(0))} processors")
     if sys.argv[1:] == ["--quick"]:
         print("nothing was proved, and nothing ran that needs the proved library or program: ./check does all")
     passed, failed = sum(it.passed for it in ended), sum(it.failed for it in ended)
