@@ -85,7 +85,8 @@ fn in_a_storm<R: Threads + Wait + Sync>(
 ) -> Result<Made, Fault>
     requires { (1 ≤ workers) × (workers ≤ 16) × (1 ≤ rounds) × (rounds ≤ 400) }
 {
-    match storm(rt, alloc, workers, rounds, Layers::new(alloc), &Open) {
+    let layers: Layers = Layers::new(alloc);
+    match storm(rt, alloc, workers, rounds, layers, &Open) {
         Ok(report) => Ok(Made {
             calls: report.calls,
             ..Made::NONE

@@ -41,6 +41,7 @@ impl Say for Formatters<ByForm> {
     }
 
     // The text is written where it shall stand.
+    #[inline(always)]
     fn say_onto(&self, form: Form, note: &Note, out: &mut Vec<u8>) -> Result<(), AllocError> {
         text_onto(form, note, out)
     }

@@ -5,6 +5,7 @@
 //! anybody.
 #![tactic(auto)]
 
+mod called;
 mod draining;
 mod fault;
 mod gate;
@@ -15,6 +16,7 @@ mod round;
 mod run;
 mod threads;
 
+pub use called::{AdmitAs, SayAs};
 pub use fault::StormFault;
 pub use gate::{Gate, Open};
 pub use numbers::show;

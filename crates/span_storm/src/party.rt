@@ -7,6 +7,7 @@ use crate::fault::StormFault;
 use crate::gate::Gate;
 use crate::metas::Metas;
 use crate::round::work;
+use span_layers::Admit;
 use span_registry::{Registry, Ring, Setup, Share, Worker};
 use std::marker::Model;
 use std::snapshot::Snapshot;
@@ -82,11 +83,12 @@ pub(crate) fn start<
     C: Ledger + Send + Sync + 's,
     S: Setup + Send + Sync + 's,
     G: Gate + Sync + 's,
+    A: Admit + Send + 's,
     R: Wait + Sync,
 >(
     rt: &'s R,
     scope: &Scope<'s, E>,
-    registry: &'s Registry<H, C, S, Ring>,
+    registry: &'s Registry<H, C, S, Ring, A>,
     gate: &'s G,
     metas: &'s Metas,
     worker: Worker<H, C, S>,

@@ -13,6 +13,7 @@ use crate::fault::StormFault;
 use crate::gate::Gate;
 use crate::metas::Metas;
 use span_id::Meta;
+use span_layers::Admit;
 use span_registry::{
     DroppableHandle, Handle, ParentOf, RefusedClose, Registry, Ring, Setup, Share, Worker,
 };
@@ -20,9 +21,9 @@ use std::sync::Wait;
 use std::sync::ledger::Ledger;
 
 /// Makes so many rounds of calls, and leaves. A worker that is refused or held gives up its handles and stops.
-pub(crate) fn work<H: Ledger, C: Ledger, S: Setup, G: Gate, R: Wait>(
+pub(crate) fn work<H: Ledger, C: Ledger, S: Setup, G: Gate, A: Admit, R: Wait>(
     rt: &R,
-    registry: &Registry<H, C, S, Ring>,
+    registry: &Registry<H, C, S, Ring, A>,
     gate: &G,
     metas: &Metas,
     worker: Worker<H, C, S>,
@@ -43,9 +44,9 @@ pub(crate) fn work<H: Ledger, C: Ledger, S: Setup, G: Gate, R: Wait>(
 }
 
 // Makes so many rounds.
-fn make_rounds<H: Ledger, C: Ledger, S: Setup, G: Gate, R: Wait>(
+fn make_rounds<H: Ledger, C: Ledger, S: Setup, G: Gate, A: Admit, R: Wait>(
     rt: &R,
-    registry: &Registry<H, C, S, Ring>,
+    registry: &Registry<H, C, S, Ring, A>,
     gate: &G,
     metas: &Metas,
     worker: &mut Worker<H, C, S>,
@@ -69,9 +70,9 @@ fn make_rounds<H: Ledger, C: Ledger, S: Setup, G: Gate, R: Wait>(
 }
 
 // Nine calls: a job, and what is made with it.
-fn round<H: Ledger, C: Ledger, S: Setup, G: Gate, R: Wait>(
+fn round<H: Ledger, C: Ledger, S: Setup, G: Gate, A: Admit, R: Wait>(
     rt: &R,
-    registry: &Registry<H, C, S, Ring>,
+    registry: &Registry<H, C, S, Ring, A>,
     gate: &G,
     metas: &Metas,
     worker: &mut Worker<H, C, S>,
@@ -92,9 +93,9 @@ fn round<H: Ledger, C: Ledger, S: Setup, G: Gate, R: Wait>(
 }
 
 // Eight calls: what is made with a job, which is closed at the end.
-fn with_job<H: Ledger, C: Ledger, S: Setup, G: Gate, R: Wait>(
+fn with_job<H: Ledger, C: Ledger, S: Setup, G: Gate, A: Admit, R: Wait>(
     rt: &R,
-    registry: &Registry<H, C, S, Ring>,
+    registry: &Registry<H, C, S, Ring, A>,
     gate: &G,
     metas: &Metas,
     worker: &mut Worker<H, C, S>,
@@ -117,9 +118,9 @@ fn with_job<H: Ledger, C: Ledger, S: Setup, G: Gate, R: Wait>(
 }
 
 // Seven calls: the job has two handles while the worker is inside it.
-fn with_clone<H: Ledger, C: Ledger, S: Setup, G: Gate, R: Wait>(
+fn with_clone<H: Ledger, C: Ledger, S: Setup, G: Gate, A: Admit, R: Wait>(
     rt: &R,
-    registry: &Registry<H, C, S, Ring>,
+    registry: &Registry<H, C, S, Ring, A>,
     gate: &G,
     metas: &Metas,
     worker: &mut Worker<H, C, S>,
@@ -142,9 +143,9 @@ fn with_clone<H: Ledger, C: Ledger, S: Setup, G: Gate, R: Wait>(
 }
 
 // Five calls: the worker enters the job, tells the event, makes a step and closes it, and leaves the job.
-fn inside<H: Ledger, C: Ledger, S: Setup, G: Gate, R: Wait>(
+fn inside<H: Ledger, C: Ledger, S: Setup, G: Gate, A: Admit, R: Wait>(
     rt: &R,
-    registry: &Registry<H, C, S, Ring>,
+    registry: &Registry<H, C, S, Ring, A>,
     gate: &G,
     metas: &Metas,
     worker: &mut Worker<H, C, S>,
@@ -186,9 +187,9 @@ fn ask<H: Ledger, C: Ledger, S: Setup, G: Gate>(
 }
 
 // Makes a span, which is wanted.
-fn open<H: Ledger, C: Ledger, S: Setup, G: Gate, R: Wait>(
+fn open<H: Ledger, C: Ledger, S: Setup, G: Gate, A: Admit, R: Wait>(
     rt: &R,
-    registry: &Registry<H, C, S, Ring>,
+    registry: &Registry<H, C, S, Ring, A>,
     gate: &G,
     worker: &mut Worker<H, C, S>,
     meta: &Meta,
@@ -212,9 +213,9 @@ fn open<H: Ledger, C: Ledger, S: Setup, G: Gate, R: Wait>(
 }
 
 // Makes one more handle of a span.
-fn clone_handle<H: Ledger, C: Ledger, S: Setup, G: Gate, R: Wait>(
+fn clone_handle<H: Ledger, C: Ledger, S: Setup, G: Gate, A: Admit, R: Wait>(
     rt: &R,
-    registry: &Registry<H, C, S, Ring>,
+    registry: &Registry<H, C, S, Ring, A>,
     gate: &G,
     worker: &mut Worker<H, C, S>,
     handle: &mut Handle<H, C, S>,
@@ -233,9 +234,9 @@ fn clone_handle<H: Ledger, C: Ledger, S: Setup, G: Gate, R: Wait>(
 }
 
 // Enters the span of a handle.
-fn enter<H: Ledger, C: Ledger, S: Setup, G: Gate, R: Wait>(
+fn enter<H: Ledger, C: Ledger, S: Setup, G: Gate, A: Admit, R: Wait>(
     rt: &R,
-    registry: &Registry<H, C, S, Ring>,
+    registry: &Registry<H, C, S, Ring, A>,
     gate: &G,
     worker: &mut Worker<H, C, S>,
     handle: &mut Handle<H, C, S>,
@@ -253,9 +254,9 @@ fn enter<H: Ledger, C: Ledger, S: Setup, G: Gate, R: Wait>(
 }
 
 // Tells the event of a round.
-fn tell<H: Ledger, C: Ledger, S: Setup, G: Gate, R: Wait>(
+fn tell<H: Ledger, C: Ledger, S: Setup, G: Gate, A: Admit, R: Wait>(
     rt: &R,
-    registry: &Registry<H, C, S, Ring>,
+    registry: &Registry<H, C, S, Ring, A>,
     gate: &G,
     worker: &mut Worker<H, C, S>,
     meta: &Meta,
@@ -274,9 +275,9 @@ fn tell<H: Ledger, C: Ledger, S: Setup, G: Gate, R: Wait>(
 }
 
 // Leaves the span of a handle.
-fn exit<H: Ledger, C: Ledger, S: Setup, G: Gate, R: Wait>(
+fn exit<H: Ledger, C: Ledger, S: Setup, G: Gate, A: Admit, R: Wait>(
     rt: &R,
-    registry: &Registry<H, C, S, Ring>,
+    registry: &Registry<H, C, S, Ring, A>,
     gate: &G,
     worker: &mut Worker<H, C, S>,
     handle: &Handle<H, C, S>,
@@ -294,9 +295,9 @@ fn exit<H: Ledger, C: Ledger, S: Setup, G: Gate, R: Wait>(
 }
 
 // Gives a handle back.
-fn close<H: Ledger, C: Ledger, S: Setup, G: Gate, R: Wait>(
+fn close<H: Ledger, C: Ledger, S: Setup, G: Gate, A: Admit, R: Wait>(
     rt: &R,
-    registry: &Registry<H, C, S, Ring>,
+    registry: &Registry<H, C, S, Ring, A>,
     gate: &G,
     worker: &mut Worker<H, C, S>,
     held: DroppableHandle<H, C, S>,

@@ -5,12 +5,13 @@ ghost use Rattle.span_registry.specs.Blanks.{blanks_of};
 ghost use Rattle.span_storm.specs.Storm.{IsStormEnd, IsStormFault, storm_limits, wants_jobs};
 ghost use Rattle.span_storm.specs.inside.Back.{HasNumbers};
 
+use crate::called::{AdmitAs, SayAs};
 use crate::fault::StormFault;
 use crate::gate::Gate;
 use crate::metas::Metas;
 use crate::threads::in_threads;
 use span_id::{Checked, Limits};
-use span_layers::{Filters, Layers, Say};
+use span_layers::{Admit, Admitters, Filters, Layers, Say};
 use span_registry::{Blanks, Drain, Registry, Report, Ring, Setup};
 use std::alloc::Global;
 use std::marker::Brand;
@@ -30,12 +31,19 @@ use std::thread::Threads;
 /// `Refused` where a call of a worker was refused, for want of memory too; `Held` where the gate answered false;
 /// `Memory` where a thread can't be made, or memory was refused outside the workers' calls. All threads end first; of
 /// more faults than one that of the lowest party is answered. It may wait, for the lock and for the gate.
-pub fn storm<G: Gate + Sync, R: Threads + Wait + Sync>(
+pub fn storm<
+    A: AdmitAs<M>,
+    F: SayAs<V>,
+    M: Admit + Send,
+    V: Say + Drop + Send,
+    G: Gate + Sync,
+    R: Threads + Wait + Sync,
+>(
     rt: &R,
     alloc: Global,
     workers: u32,
     rounds: u32,
-    layers: Layers,
+    layers: Layers<A, F>,
     gate: &G,
 ) -> Result<Report, StormFault>
     requires workers { (0 < workers) × (workers ≤ 16) }
@@ -65,12 +73,19 @@ pub fn storm<G: Gate + Sync, R: Threads + Wait + Sync>(
 }
 
 // Makes what a registry is made of, and picks its names.
-fn with_metas<G: Gate + Sync, R: Threads + Wait + Sync>(
+fn with_metas<
+    A: AdmitAs<M>,
+    F: SayAs<V>,
+    M: Admit + Send,
+    V: Say + Drop + Send,
+    G: Gate + Sync,
+    R: Threads + Wait + Sync,
+>(
     rt: &R,
     alloc: Global,
     checked: &Checked,
     rounds: u32,
-    layers: Layers,
+    layers: Layers<A, F>,
     gate: &G,
     metas: &Metas,
 ) -> Result<Report, StormFault>
@@ -89,7 +104,7 @@ fn with_metas<G: Gate + Sync, R: Threads + Wait + Sync>(
         return Err(StormFault::Memory);
     };
     let (filters, formatting) = layers.split();
-    run::<Brand, Brand, Brand, _, _, _>(
+    run::<Brand, Brand, Brand, _, _, _, _, _>(
         rt,
         alloc,
         rounds,
@@ -97,7 +112,7 @@ fn with_metas<G: Gate + Sync, R: Threads + Wait + Sync>(
         metas,
         filters,
         ring,
-        Drain::new(alloc, tap, formatting),
+        F::drain(Drain::new(alloc, tap, formatting)),
         blanks,
     )
 }
@@ -108,6 +123,8 @@ fn run<
     H: Ledger + Send + Sync,
     C: Ledger + Send + Sync,
     S: Setup + Send + Sync,
+    A: AdmitAs<M>,
+    M: Admit + Send,
     V: Say + Drop + Send,
     G: Gate + Sync,
     R: Threads + Wait + Sync,
@@ -117,7 +134,7 @@ fn run<
     rounds: u32,
     gate: &G,
     metas: &Metas,
-    filters: Filters,
+    filters: Filters<A>,
     ring: Ring,
     drain: Drain<V>,
     blanks: Blanks,
@@ -133,10 +150,11 @@ fn run<
     ensures ended { IfOk result (λ report. IsStormEnd S.limits rounds S.rules drain.forms report) }
     ensures faults { IfErr result (IsStormFault S.limits rounds S.rules (G.holds gate.now)) }
 {
-    let made = Registry::<H, C, S, Ring>::new(alloc, filters, ring, blanks);
+    let made = Registry::<H, C, S, Ring, Admitters<A>>::new(alloc, filters, ring, blanks);
     let Ok((registry, workers)) = made else {
         return Err(StormFault::Memory);
     };
+    let registry = A::registry(registry);
     let (whole, drain) = in_threads(rt, alloc, &registry, gate, metas, workers, rounds, drain)?;
     Ok(registry.finish(whole, drain))
 }

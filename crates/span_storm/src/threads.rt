@@ -9,7 +9,7 @@ use crate::fault::StormFault;
 use crate::gate::Gate;
 use crate::metas::Metas;
 use crate::party::{Party, start};
-use span_layers::Say;
+use span_layers::{Admit, Say};
 use span_registry::{Drain, Registry, Ring, Setup, Share, Worker};
 use std::alloc::Global;
 use std::sync::Wait;
@@ -26,11 +26,12 @@ pub(crate) fn in_threads<
     S: Setup + Send + Sync,
     V: Say + Drop + Send,
     G: Gate + Sync,
+    A: Admit + Send,
     R: Threads + Wait + Sync,
 >(
     rt: &R,
     alloc: Global,
-    registry: &Registry<H, C, S, Ring>,
+    registry: &Registry<H, C, S, Ring, A>,
     gate: &G,
     metas: &Metas,
     workers: Vec<Worker<H, C, S>>,
@@ -80,12 +81,13 @@ fn run_workers<
     C: Ledger + Send + Sync + 's,
     S: Setup + Send + Sync + 's,
     G: Gate + Sync + 's,
+    A: Admit + Send + 's,
     R: Threads + Wait + Sync,
 >(
     rt: &'s R,
     scope: &Scope<'s, E>,
     alloc: Global,
-    registry: &'s Registry<H, C, S, Ring>,
+    registry: &'s Registry<H, C, S, Ring, A>,
     gate: &'s G,
     metas: &'s Metas,
     workers: Vec<Worker<H, C, S>>,
@@ -108,12 +110,13 @@ fn start_all<
     C: Ledger + Send + Sync + 's,
     S: Setup + Send + Sync + 's,
     G: Gate + Sync + 's,
+    A: Admit + Send + 's,
     R: Wait + Sync,
 >(
     rt: &'s R,
     scope: &Scope<'s, E>,
     alloc: Global,
-    registry: &'s Registry<H, C, S, Ring>,
+    registry: &'s Registry<H, C, S, Ring, A>,
     gate: &'s G,
     metas: &'s Metas,
     workers: Vec<Worker<H, C, S>>,

@@ -1,4 +1,4 @@
-use Rattle.std.proofs.Common.{rules, ◌≡◌, ℕ, ◌<◌, ◌∙◌, List, ap, sym, subst, arith}
+use Rattle.std.proofs.Common.{rules, ◌≡◌, ℕ, ◌<◌, ◌≤◌, ◌∙◌, List, true, length, ap, sym, subst, arith}
 use Rattle.std.proofs.lemmas.Result.{err_from_is_err_and}
 use Rattle.std.specs.Prelude.{Option, Some, IsSomeAnd, slice_index_or}
 use Rattle.span_id.specs.declared.limits.Limits.{Limits}
@@ -10,10 +10,10 @@ use Rattle.span_registry.specs.declared.report.Report.{Report}
 use Rattle.span_registry.specs.Worker.{WorkerView, IsNew}
 use Rattle.span_registry.specs.Share.{ShareView}
 use Rattle.span_registry.specs.Report.{IsDrainedEnd, IsReportOf}
-use Rattle.span_storm.specs.Storm.{IsStormEnd, IsStormFault}
+use Rattle.span_storm.specs.Storm.{IsStormEnd, IsStormFault, wants_jobs}
 use Rattle.span_storm.specs.declared.fault.StormFault.{StormFault}
 use Rattle.span_storm.specs.declared.fault.StormFault.TheVariants.{Memory, Refused, Held}
-use Rattle.span_storm.specs.inside.Back.{HasAll, IsStormStop}
+use Rattle.span_storm.specs.inside.Back.{AreReady, HasAll, IsStormStop}
 use Rattle.span_storm.proofs.Gathering.{each_made}
 use Rattle.span_storm.proofs.Leaving.{world_is_empty, nothing_left}
 use Rattle.span_storm.proofs.run.run.Goals as goal
@@ -72,3 +72,21 @@ returns-in_err-whole-clause-faults g c =
     let rounds = c.args.rounds in
     let holds = g.G.Gate.holds c.args.gate.now in
     storm_fault limits rounds rules holds c.in_err-whole.field-0.0 (subst (λ count. IsStormStop limits rules holds count rounds c.in_err-whole.field-0.0) c.in-Ok.ensures.count.0 c.in_err-whole.ensures.stopped))
+
+-- so many new workers may begin
+are_ready : (rules : List Filter) (workers : List WorkerView) (count limit rounds : ℕ) → length workers ≡ count → count ≡ limit → 0 < limit → limit ≤ 16 → rounds ≤ 400 → wants_jobs rules ≡ true
+    → ((i : ℕ) (d : WorkerView) → i < limit → IsNew i (slice_index_or workers i d)) → AreReady rules count workers rounds
+are_ready rules workers count limit rounds length_is count_is some few few_rounds wanted each = record {
+  wanted = wanted;
+  some = omega (arith, count_is, some);
+  few = omega (arith, count_is, few);
+  few_rounds = few_rounds;
+  new = λ k d low. (each k d (omega (arith, low, length_is, count_is))).accepted_is;
+  numbers = λ k d low. omega (arith, low, length_is, (each k d (omega (arith, low, length_is, count_is))).number_is);
+  spare = λ k d low. omega (arith, (each k d (omega (arith, low, length_is, count_is))).spare_low);
+}
+
+pub in_threads-requires-after_bounds : goal.in_threads-requires-after_bounds
+in_threads-requires-after_bounds g c κs within =
+    let made = c.in-Ok.ensures in
+    are_ready _ _ _ _ _ (sym c.in-Ok.workers.ok.0) made.count.0 (search rules) c.requires.workers c.requires.rounds c.requires.wanted made.each

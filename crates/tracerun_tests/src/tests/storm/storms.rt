@@ -78,7 +78,8 @@ fn two_storms_run_at_once(rt: HostRuntime) {
 #[test]
 fn a_storm_needs_no_layer(rt: HostRuntime) {
     let alloc = rt.alloc();
-    let ended = storm(&rt, alloc, 3, 2, Layers::new(alloc), &Open);
+    let layers: Layers = Layers::new(alloc);
+    let ended = storm(&rt, alloc, 3, 2, layers, &Open);
     let expected =
         "workers 3\nrounds 2\nmade 12\nclosed 12\ncalls 54\nlines 0\nrefused 0\nleft 0\n";
     ends(&rt, alloc, 3, 2, &ended, expected);
