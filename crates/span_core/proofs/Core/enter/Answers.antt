@@ -50,12 +50,12 @@ counts : (g : given.Over) (c : After-put g) → (may_count c.args.self.now (ente
 counts g c =
     let send : may_send c.args.self.now ≡ true = lt-ltb _ _ (omega (arith, c.self.invariant.0.calls_are, ap (λ (v : CoreView). length v.sent) c.self.view_is)) in
     let may : (has (get_or (ids_of_each c.self.inside.stacks.items) c.args.worker []) c.args.id || is_below_max c.self.inside.limits.max_count c.self.inside.forest.spans c.args.id) ≡ true =
-        elim c.if-first.branch [
-          | then-first w ↦
-              (let below = leb-false _ _ (sym w.full-is ∙ c.if-full.false) in
-              or_second _ _ (lt-ltb (reference_count c.self.inside.forest.spans c.args.id) c.self.inside.limits.max_count (omega (arith, below, c.in-Some.ensures.count, ap (λ (limits : Limits). limits.max_count) w.limits.ensures.value))))
-          | else-first w ↦ or_first _ _ (not_false _ (sym (first g c) ∙ w.if-first.false))
-        ] in
+    elim c.if-first.branch [
+      | then-first w ↦
+          (let below = leb-false _ _ (sym w.full-is ∙ c.if-full.false) in
+          or_second _ _ (lt-ltb (reference_count c.self.inside.forest.spans c.args.id) c.self.inside.limits.max_count (omega (arith, below, c.in-Some.ensures.count, ap (λ (limits : Limits). limits.max_count) w.limits.ensures.value))))
+      | else-first w ↦ or_first _ _ (not_false _ (sym (first g c) ∙ w.if-first.false))
+    ] in
     subst (λ (v : CoreView). ((has (stack_of v.world c.args.worker) c.args.id || is_below_max v.limits.max_count v.world.spans c.args.id) && may_send c.args.self.now) ≡ true) c.self.view_is (rw (may, send) refl)
 
 due : (g : given.Over) (c : After-put g) → IsDue c.args.self.now (enter c.args.worker c.args.id)
