@@ -11,7 +11,8 @@ use std::sync::ledger::Ledger;
 
 /// What applies a layer's rule. The storm's registry calls it as an `M`, which is `Admitters` of it.
 pub trait AdmitAs<M>: Drop {
-    /// The registry, as it is.
+    /// The registry, as it is. No clause says so, since contracts see nothing of a registry: what a storm promises rests
+    /// on the registry's names alone, and holds whatever comes back under them.
     fn registry<H: Ledger, C: Ledger, S: Setup>(
         registry: Registry<H, C, S, Ring, Admitters<Self>>,
     ) -> Registry<H, C, S, Ring, M>;

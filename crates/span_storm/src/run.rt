@@ -22,6 +22,9 @@ use std::thread::Threads;
 /// Has so many workers, 1 to 16, make so many rounds of nine calls, 1 to 400, on one registry with these layers, each
 /// in a thread of its own, while a drain in another writes the lines. Answers how the registry ended.
 ///
+/// `M` and `V` follow from what the layers call, and no caller names them. Layers to which none was added need their
+/// type: `let layers: Layers = Layers::new(alloc);`.
+///
 /// In a round a worker makes a root span `job`, clones it, enters it, tells the event `tick`, makes a span `step`
 /// inside, closes that, leaves `job`, and closes both its handles: so in the end nothing is open. All are of target
 /// `app` and level INFO, without fields; one of the layers has to admit that, if there are any. The limits are the
