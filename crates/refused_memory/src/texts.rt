@@ -47,22 +47,24 @@ pub(crate) fn shared_fields_of(alloc: Global, pairs: &[(&str, &str)]) -> Result<
     Ok(Fields::new(alloc, fields_of(alloc, pairs)?)?)
 }
 
-/// The formatting of one layer that has no closures and writes plain text.
+/// The formatting of two layers that have no closures and write plain text.
 pub(crate) fn plain_formatting(alloc: Global) -> Result<Formatting<ByForm>, Stop> {
-    let style = Style {
-        form: Form::Compact,
-        spans: FmtSpan::FULL,
-    };
-    let layer = Layer {
-        style,
-        rule: Rule::everything(alloc)?,
-        hooks: Hooks::by_rule_and_form(),
-    };
     let mut layers = Layers::<ByRule, ByForm>::new(alloc);
-    match layers.add(layer) {
-        Ok(_) => Ok(layers.split().1),
-        Err(_) => Err(Stop::Memory),
+    for _ in 0..2 {
+        let style = Style {
+            form: Form::Compact,
+            spans: FmtSpan::FULL,
+        };
+        let layer = Layer {
+            style,
+            rule: Rule::everything(alloc)?,
+            hooks: Hooks::by_rule_and_form(),
+        };
+        if layers.add(layer).is_err() {
+            return Err(Stop::Memory);
+        }
     }
+    Ok(layers.split().1)
 }
 
 /// A note of the span `a`, which is open under the id 1; where it is of an event, of none.

@@ -45,4 +45,10 @@ impl Say for Formatters<ByForm> {
     fn say_onto(&self, form: Form, note: &Note, out: &mut Vec<u8>) -> Result<(), AllocError> {
         text_onto(form, note, out)
     }
+
+    // There is no closure to be called.
+    #[inline(always)]
+    fn allows_copies(&self) -> bool {
+        true
+    }
 }

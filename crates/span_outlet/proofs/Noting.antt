@@ -23,7 +23,7 @@ use Rattle.span_outlet.specs.inside.Reading.{HasItsNote, HaveNotes}
 use Rattle.span_outlet.proofs.Apart.{stands_there}
 
 -- what stands behind the first ones
-seam : {X : Type 0} (xs : List X) (y : X) (ys : List X) → slice_get (xs ++ y ∷ ys) (length xs) ≡ Some y
+pub seam : {X : Type 0} (xs : List X) (y : X) (ys : List X) → slice_get (xs ++ y ∷ ys) (length xs) ≡ Some y
 seam xs y ys =
     let size = length-append xs (y ∷ ys) in
     slice_get-get_or (xs ++ y ∷ ys) (length xs) y (omega (arith, size)) ∙ ap Some (get_or-append_seam xs y ys y)

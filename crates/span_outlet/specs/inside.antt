@@ -3,4 +3,5 @@ pub mod Ends
 pub mod GivenOut
 pub mod OfLayer
 pub mod Reading
+pub mod SameText
 pub mod Taking

@@ -17,6 +17,7 @@ mod outlet;
 mod past;
 mod posted;
 mod ring;
+mod same_text;
 
 pub use batch::{Batch, Call, ParentOf, Reply};
 pub use drain::{Drain, Step};

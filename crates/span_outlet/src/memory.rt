@@ -45,6 +45,14 @@ impl Place {
     {
         formatters.say_onto(form, note, out)
     }
+
+    /// Appends a text that is known to be that of the note which stands here.
+    pub(crate) fn append(self, text: &[u8], out: &mut Vec<u8>) -> Result<(), AllocError>
+        ensures text { OnOk result (out.new.items ≡ out.old.items ++ text.now) }
+        ensures refused { OnErr result (LacksMemory self.batch self.place) }
+    {
+        out.extend_from_slice(text)
+    }
 }
 
 /// Puts a line behind the others. Only where the list is full can that be refused, and then the line is dropped.

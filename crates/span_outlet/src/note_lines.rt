@@ -1,10 +1,11 @@
 //! The telling of notes, one after another.
-ghost use Rattle.std.specs.Prelude.{◌≡◌, ◌+◌, ◌-◌, ◌^◌, ◌<◌, ◌≤◌, ◌∷◌, [], Some, IfOk, IfSome, IfNone, OnErr, map, length, min, vec_capacity};
+ghost use Rattle.std.specs.Prelude.{true, ◌≡◌, ◌+◌, ◌-◌, ◌^◌, ◌<◌, ◌≤◌, ◌∷◌, [], Some, IfOk, IfSome, IfNone, OnErr, map, length, min, vec_capacity};
 ghost use Rattle.span_layers.specs.Note.{plain_note};
 ghost use Rattle.span_layers.specs.Text.{text_of};
 ghost use Rattle.span_outlet.specs.Lines.{line_of, plain_line};
 ghost use Rattle.span_outlet.specs.Kept.{LacksMemory, WhyMissed, GainsLines};
 ghost use Rattle.span_outlet.specs.inside.Ends.{name_of_consumer};
+ghost use Rattle.span_outlet.specs.inside.SameText.{EndsWithTextOf, IsTextOf};
 ghost use Rattle.span_outlet.specs.inside.Taking.{TakesFirst, numbered_notes};
 ghost use Rattle.rtrb.specs.Ring.{received, known_items};
 
@@ -12,6 +13,7 @@ use crate::line::Line;
 use crate::memory::{Place, keep};
 use crate::posted::Posted;
 use crate::ring::Consuming;
+use crate::same_text::known_text;
 use span_layers::{Form, Forms, Note, Say};
 use std::alloc::AllocError;
 
@@ -96,6 +98,44 @@ fn text_of_note<V: Say>(
     }
 }
 
+// The text of a note in a form: a copy of a text that is known to be the same, if there is one. The only error is that
+// memory was refused.
+fn copied_or_made<V: Say>(
+    spare: &mut Vec<Vec<u8>>,
+    formatters: &V,
+    form: Form,
+    at: Place,
+    note: &Note,
+    known: Option<&[u8]>,
+) -> Result<Vec<u8>, AllocError>
+    requires { IfSome known (λ text. text.now ≡ text_of form (plain_note note.now)) }
+    ensures text { IfOk result (λ text. text.items ≡ text_of form (plain_note note.now)) }
+    ensures refused { OnErr result (LacksMemory at.batch at.place) }
+{
+    match known {
+        Some(text) => copy_of_text(spare, at, text),
+        None => text_of_note(spare, formatters, form, at, note),
+    }
+}
+
+// A copy of a text, in a spare buffer if there is one. The only error is that memory was refused.
+fn copy_of_text(spare: &mut Vec<Vec<u8>>, at: Place, text: &[u8]) -> Result<Vec<u8>, AllocError>
+    ensures text { IfOk result (λ copy. copy.items ≡ text.now) }
+    ensures refused { OnErr result (LacksMemory at.batch at.place) }
+{
+    let mut copy = match spare.pop() {
+        Some(buffer) => buffer,
+        None => Vec::new(*spare.allocator()),
+    };
+    copy.clear();
+    at.append(text, &mut copy)?;
+    if copy.capacity() > MOST_ROOM {
+        // It won't be kept for another text.
+        give_room_back(&mut copy);
+    }
+    Ok(copy)
+}
+
 // Gives back the room that a text leaves, if it is worth it.
 fn give_room_back(text: &mut Vec<u8>)
     ensures { text.new.items ≡ text.old.items }
@@ -105,8 +145,8 @@ fn give_room_back(text: &mut Vec<u8>)
     }
 }
 
-// The line of a note. There is none only where its layer has no form, its place is out of range, or memory for its text
-// was refused.
+// The line of a note, whose text may be known. There is none only where its layer has no form, its place is out of range,
+// or memory for its text was refused.
 fn line_of_note<V: Say>(
     forms: &Forms,
     spare: &mut Vec<Vec<u8>>,
@@ -114,14 +154,17 @@ fn line_of_note<V: Say>(
     batch: u64,
     place: usize,
     note: &Note,
+    known: Option<&[u8]>,
 ) -> Option<Line>
+    requires known { IfSome known (λ text. IsTextOf forms.now note.now text.now) }
     ensures line { IfSome result (λ line. line_of forms.now batch (place, plain_note note.now) ≡ Some (plain_line line)) }
     ensures none { IfNone result (WhyMissed forms.now
         (record { batch = batch; place = place; note = plain_note note.now })) }
 {
     let form = forms.get(note.layer)?;
     let place = u32::try_from(place).ok()?;
-    let text = text_of_note(spare, formatters, form, Place { batch, place }, note).ok()?;
+    let at = Place { batch, place };
+    let text = copied_or_made(spare, formatters, form, at, note, known).ok()?;
     Some(Line {
         batch,
         place,
@@ -140,22 +183,42 @@ impl NoteLines {
         self.missed = self.missed.saturating_add(1);
     }
 
-    // Tells a note: its line is appended, or it is missed and counted.
-    fn tell<V: Say>(&mut self, formatters: &V, batch: u64, place: usize, note: &Note)
+    // Tells a note: its line is appended, or it is missed and counted. Answers whether the line was appended. `before` is
+    // the note of the last line, if its text may be copied.
+    fn tell<V: Say>(
+        &mut self,
+        formatters: &V,
+        batch: u64,
+        place: usize,
+        note: &Note,
+        before: Option<&Note>,
+    ) -> bool
+        requires before { IfSome before (λ before. EndsWithTextOf self.old.forms self.old.lines.items before.now) }
         ensures forms { self.new.forms ≡ self.old.forms }
         ensures told { GainsLines self.old.forms
             ((record { batch = batch; place = place; note = plain_note note.now }) ∷ [])
             (map plain_line self.old.lines.items) self.old.missed
             (map plain_line self.new.lines.items) self.new.missed }
+        ensures last { result ≡ true → EndsWithTextOf self.new.forms self.new.lines.items note.now }
     {
-        let Some(line) = line_of_note(&self.forms, &mut self.spare, formatters, batch, place, note)
-        else {
+        let known = known_text(&self.forms, self.lines.as_slice(), before, note);
+        let Some(line) = line_of_note(
+            &self.forms,
+            &mut self.spare,
+            formatters,
+            batch,
+            place,
+            note,
+            known,
+        ) else {
             self.miss();
-            return;
+            return false;
         };
         if keep(&mut self.lines, line).is_err() {
             self.miss();
+            return false;
         }
+        true
     }
 
     // Tells the notes of the batch of this number, in order.
@@ -168,8 +231,11 @@ impl NoteLines {
         ensures most { length self.new.lines.items
             ≤ length self.old.lines.items + length notes.now }
     {
+        let may_copy = formatters.allows_copies();
+        let mut before = None;
         for (place, note) in notes.iter().enumerate() {
-            self.tell(formatters, number, place, note);
+            let is_told = self.tell(formatters, number, place, note, before);
+            before = (is_told && may_copy).then_some(note);
         }
     }
 

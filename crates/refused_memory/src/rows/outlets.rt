@@ -94,7 +94,7 @@ fn put_in_kept<V: Say, R: Print>(
     Ok(())
 }
 
-/// Puts a batch with one note and two events into a `Latest`, and tells what it shows.
+/// Puts a batch with one note and three events into a `Latest`, and tells what it shows.
 pub(crate) fn run_latest<R: Print>(stage: &Stage<R>, alloc: Global) -> Result<(), Stop> {
     let formatting = plain_formatting(alloc)?;
     stage.begin(Memory::Untouched);
@@ -113,40 +113,43 @@ fn put_in_latest<V: Say, R: Print>(
     let before = latest.counted();
     put(stage, alloc, Memory::Untouched, latest)?;
     tell_last(stage, latest, before);
-    tell_event(stage, alloc, latest)?;
-    tell_event(stage, alloc, latest)?;
+    tell_event(stage, alloc, latest, 1)?;
+    tell_event(stage, alloc, latest, 1)?;
+    tell_event(stage, alloc, latest, 2)?;
     tell_spare(stage, latest);
     Ok(())
 }
 
-// Tells an event to a `Latest`, which always has room.
+// Tells so many layers an event by a `Latest`, which always has room. The second one's text is copied from the first's.
 fn tell_event<V: Say, R: Print>(
     stage: &Stage<R>,
     alloc: Global,
     latest: &mut Latest<V>,
+    layers: u32,
 ) -> Result<(), Stop>
-    requires { length latest.old.sent ≤ 2 }
+    requires { length latest.old.sent ≤ 3 }
     ensures { length latest.new.sent ≤ length latest.old.sent + 1 }
 {
     let before = latest.counted();
     room(stage, Memory::Untouched, latest)?;
-    put_event(stage, alloc, latest)?;
+    put_event(stage, alloc, latest, layers)?;
     tell_last(stage, latest, before);
     Ok(())
 }
 
-// Puts an event of one note, where there is room. It may be refused memory, and its note is missed then.
+// Puts an event of so many notes, where there is room. It may be refused memory, and notes are missed then.
 fn put_event<V: Say, R: Print>(
     stage: &Stage<R>,
     alloc: Global,
     latest: &mut Latest<V>,
+    layers: u32,
 ) -> Result<(), Stop>
     requires ready { latest.old.ready ≡ true }
-    requires few { length latest.old.sent ≤ 2 }
+    requires few { length latest.old.sent ≤ 3 }
     ensures { length latest.new.sent ≤ length latest.old.sent + 1 }
 {
     let meta = meta_of(alloc, "event", Level::Warn)?;
-    let notes = notes(alloc, Kind::OnEvent)?;
+    let notes = notes(alloc, Kind::OnEvent, layers)?;
     stage.begin(Memory::Taken);
     let event = KnownEvent::new(0, &meta, "x\ny", &[], ParentOf::Current);
     let put = latest.put_event(event, notes);
@@ -180,10 +183,12 @@ pub(crate) fn tell_last<V, R: Print>(
     }
 }
 
-// One note.
-fn notes(alloc: Global, kind: Kind) -> Result<Vec<Note>, Stop> {
+// A note for each of so many layers, which tell the same.
+fn notes(alloc: Global, kind: Kind, layers: u32) -> Result<Vec<Note>, Stop> {
     let mut notes = Vec::new(alloc);
-    notes.push(note_of(alloc, 0, kind, &[("k", "1")])?)?;
+    for layer in 0..layers {
+        notes.push(note_of(alloc, layer, kind, &[("k", "1")])?)?;
+    }
     Ok(notes)
 }
 
@@ -195,7 +200,7 @@ fn batch(alloc: Global) -> Result<Batch, Stop> {
             id: Id::pack(0, 0),
         },
         reply: Reply::Cloned,
-        notes: notes(alloc, Kind::OnNew)?,
+        notes: notes(alloc, Kind::OnNew, 1)?,
     })
 }
 

@@ -23,6 +23,7 @@ const NOTES: usize = 16;
 struct Exact {
     alloc: Global,
     room: usize,
+    allows_copies: bool,
 }
 
 impl Say for Exact {
@@ -39,14 +40,23 @@ impl Say for Exact {
         out.reserve_exact(made.len().saturating_add(self.room))?;
         out.extend_from_slice(made.as_slice())
     }
+
+    fn allows_copies(&self) -> bool {
+        self.allows_copies
+    }
 }
 
-// An outlet to which nothing was sent, whose texts have so much room behind them.
-fn with_room(rt: &impl Abort, alloc: Global, room: usize) -> Latest<Exact>
+// An outlet to which nothing was sent, whose texts have so much room behind them, unless they are copied.
+fn with_room(rt: &impl Abort, alloc: Global, room: usize, allows_copies: bool) -> Latest<Exact>
     ensures { result.sent ≡ [] }
 {
     let forms = formatting(rt, alloc, &FORMS).forms;
-    Latest::with_formatters(alloc, forms, Exact { alloc, room })
+    let formatters = Exact {
+        alloc,
+        room,
+        allows_copies,
+    };
+    Latest::with_formatters(alloc, forms, formatters)
 }
 
 // How many of these lines have a text whose buffer has so many bytes.
@@ -122,9 +132,17 @@ static CASES: [Case; 18] = [
     (&[1000; 65], &[90; 65], 0, 1, 90),
 ];
 
-fn are_kept(rt: &impl Abort, alloc: Global, case: &Case) {
+// Of two texts that are the same the second one is copied: into a kept buffer, or into one of its own length.
+static COPIES: [Case; 4] = [
+    (&[], &[90, 90], LEFT, 1, 90 + LEFT),
+    (&[], &[90, 90], LEFT, 1, 90),
+    (&[1000, 1000], &[90, 90], 0, 2, 1000),
+    (&[], &[90, 91], LEFT, 1, 91 + LEFT),
+];
+
+fn are_kept(rt: &impl Abort, alloc: Global, case: &Case, allows_copies: bool) {
     let (first, second, room, buffers, bytes) = *case;
-    let mut latest = with_room(rt, alloc, room);
+    let mut latest = with_room(rt, alloc, room, allows_copies);
     send_texts(rt, alloc, &mut latest, first);
     send_texts(rt, alloc, &mut latest, second);
     let found = (with_capacity(latest.lines(), bytes), latest.missed());
@@ -134,7 +152,10 @@ fn are_kept(rt: &impl Abort, alloc: Global, case: &Case) {
 #[test]
 fn buffers_are_used_again(rt: HostRuntime) {
     for case in &CASES {
-        are_kept(&rt, rt.alloc(), case);
+        are_kept(&rt, rt.alloc(), case, false);
+    }
+    for case in &COPIES {
+        are_kept(&rt, rt.alloc(), case, true);
     }
 }
 
@@ -156,7 +177,7 @@ fn given<O: Outlet>(outlet: &mut O) -> Option<usize> {
 
 // The list of the notes is given out once, where it has room for so many, and else not at all.
 fn gives_its_list(rt: &impl Abort, alloc: Global, room: usize, want: Option<usize>) {
-    let mut latest = with_room(rt, alloc, 0);
+    let mut latest = with_room(rt, alloc, 0, false);
     send_in_a_list(rt, alloc, &mut latest, room);
     let lists = [given(&mut latest), given(&mut latest)];
     same(rt, lists, [want, None], room);

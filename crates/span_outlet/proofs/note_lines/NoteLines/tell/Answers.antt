@@ -2,6 +2,7 @@ use Rattle.std.proofs.Common.{rules, ◌≡◌, ◌++◌, ◌∷◌, []}
 use Rattle.span_layers.specs.Note.{plain_note}
 use Rattle.span_outlet.specs.Kept.{LacksMemory, WhyMissed}
 use Rattle.span_outlet.proofs.Keeping.{gains_told, gains_missed}
+use Rattle.span_outlet.proofs.SameTexts.{ends_with}
 use Rattle.span_outlet.proofs.Apart.{lacks_line}
 use Rattle.span_outlet.proofs.note_lines.NoteLines.tell.Goals as goal
 
@@ -16,7 +17,12 @@ returns-then-is_err-clause-told g c =
     let refused : LacksMemory c.in-Some.line.batch c.in-Some.line.place = search rules in
     gains_missed _ _ _ _ _ _ (lacks_line _ _ c.in-Some.line c.in-Some.ensures.line refused) same c.miss-then-is_err.ensures.missed
 
-pub returns-else-is_err-clause-told : goal.returns-else-is_err-clause-told
-returns-else-is_err-clause-told g c =
+pub returns-clause-told : goal.returns-clause-told
+returns-clause-told g c =
     let pushed : c.keep.new.lines.items ≡ c.args.self.now.lines.items ++ c.in-Some.line ∷ [] = search rules in
     gains_told _ _ _ _ _ c.in-Some.line c.in-Some.ensures.line pushed c.args.self.now.in_range
+
+pub returns-clause-last : goal.returns-clause-last
+returns-clause-last g c = λ _.
+    let pushed : c.keep.new.lines.items ≡ c.args.self.now.lines.items ++ c.in-Some.line ∷ [] = search rules in
+    ends_with c.args.self.now.forms _ _ c.in-Some.line c.args.note.now c.args.batch c.args.place pushed c.in-Some.ensures.line

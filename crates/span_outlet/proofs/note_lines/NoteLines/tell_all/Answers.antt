@@ -4,15 +4,16 @@ use Rattle.span_outlet.proofs.Draining.{most_gained}
 use Rattle.span_outlet.proofs.note_lines.NoteLines.tell_all.Goals as goal
 
 pub loop-place-init : goal.loop-place-init
-loop-place-init g c = record { forms = refl; so_far = gains_none _ _ _ c.args.self.now.in_range }
+loop-place-init g c = record { forms = refl; so_far = gains_none _ _ _ c.args.self.now.in_range; before = tt }
 
 pub loop-place-preserved : goal.loop-place-preserved
 loop-place-preserved g c =
     let within : c.loop-place.place < length c.args.notes.now = search rules in
     let at : get_or c.args.notes.now c.loop-place.place c.index-notes-place.result ≡ c.index-notes-place.result = search rules in
     record {
-      forms = c.tell.ensures.forms ∙ c.loop-place.invariant.forms;
-      so_far = next_gains _ _ _ _ _ _ _ _ _ _ _ _ c.loop-place.invariant.forms within at c.loop-place.invariant.so_far c.tell.ensures.told;
+      forms = c.tell-is_told.ensures.forms ∙ c.loop-place.invariant.forms;
+      so_far = next_gains _ _ _ _ _ _ _ _ _ _ _ _ c.loop-place.invariant.forms within at c.loop-place.invariant.so_far c.tell-is_told.ensures.told;
+      before = search rules;
     }
 
 pub returns-clause-told : goal.returns-clause-told
