@@ -7,6 +7,7 @@ pub mod Readable
 pub mod Texts
 pub mod NewSpans
 pub mod Remembering
+pub mod LayerSets
 pub mod ClosingPaths
 pub mod Counted
 pub mod Deciding

@@ -71,7 +71,7 @@ path_in_part layer id part whole p part_ends whole_ends in_part in_whole =
     (names_in_part layer part whole p (length whole) (Some id) in_part
     ∙ ap (names_for layer part) (walks_agree (length whole) (length part) part (Some id) (ends_in_part layer part whole p (length whole) (Some id) in_part (whole_ends id in_whole)) (part_ends id in_part)))
 
--- the places as they are, one more in which nothing stands, one from which a path is gone, and a path at one of them
+-- the places as they are, one more in which nothing stands, one from which a path is gone, and something else at one of them
 pub remembers_same : (forest : ForestView) (old new : KnownPaths) → new.places.items ≡ old.places.items → Remembers forest old → Remembers forest new
 remembers_same forest old new is before = record {
   each = subst (All (λ place. IfSome place (IsRemembered forest))) (sym is) before.each;
@@ -89,10 +89,10 @@ remembers_none forest old new at is before =
     let here : Option KnownPath → Type 0 = λ place. IfSome place (IsRemembered forest) in
     record { each = subst (All here) (sym is) (All-set here old.places.items at None tt before.each) }
 
-pub remembers_put : (forest : ForestView) (old new : KnownPaths) (at : ℕ) (known : KnownPath) → new.places.items ≡ set old.places.items at (Some known) → IsRemembered forest known → Remembers forest old → Remembers forest new
-remembers_put forest old new at known is told before =
+pub remembers_at : (forest : ForestView) (old new : KnownPaths) (at : ℕ) (place : Option KnownPath) → new.places.items ≡ set old.places.items at place → IfSome place (IsRemembered forest) → Remembers forest old → Remembers forest new
+remembers_at forest old new at place is told before =
     let here : Option KnownPath → Type 0 = λ place. IfSome place (IsRemembered forest) in
-    record { each = subst (All here) (sym is) (All-set here old.places.items at (Some known) told before.each) }
+    record { each = subst (All here) (sym is) (All-set here old.places.items at place told before.each) }
 
 -- what becomes of a forest keeps what is remembered, where each id stays given and each span that is open was open with the same paths
 remembers_on : (old new : ForestView) (known : KnownPaths) → ((id : ℕ) → IsIssued (table_of old) id → IsIssued (table_of new) id)
@@ -102,7 +102,7 @@ remembers_on old new known issued same before = record {
   each = All-weaker (λ place. IfSome place (IsRemembered old)) (λ place. IfSome place (IsRemembered new))
       (λ place was. IfSome_then place was (λ told is. record {
         issued = issued told.place is.issued;
-        text = λ there. (let k = same told.layer told.place is.issued there in is.text k.0 ∙ ap path_text (sym k.1));
+        text = λ there layer read. (let k = same layer told.place is.issued there in is.text k.0 layer read ∙ ap path_text (sym k.1));
       })) known.places.items before.each;
 }
 

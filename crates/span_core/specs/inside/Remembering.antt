@@ -3,8 +3,10 @@
 -- A span that is open keeps its name, its layers and its parent, and so does each span above it, which stays open as
 -- long as it does. So the path that was told at it is what its layer reads there until it closes. And no id is given
 -- twice: a path that was told at a span that closed is never read again.
-use Rattle.std.specs.Prelude.{◌≡◌, IfSome, All}
+use Rattle.std.specs.Prelude.{◌≡◌, ℕ, List, IfSome, IsTrue, All}
 use Rattle.std.specs.Arc.{arc_str_bytes}
+use Rattle.span_id.specs.declared.bits.Bits.{Bits}
+use Rattle.span_id.specs.Bits.{has_bit}
 use Rattle.span_slots.specs.Table.{IsIssued}
 use Rattle.span_forest.specs.Spans.{IsOpen}
 use Rattle.span_forest.specs.Forest.{ForestView, table_of}
@@ -12,11 +14,15 @@ use Rattle.span_forest.specs.Path.{path, path_text}
 use Rattle.span_core.specs.declared.known_paths.KnownPath.{KnownPath}
 use Rattle.span_core.specs.declared.known_paths.KnownPaths.{KnownPaths}
 
--- the path was told at an id that was given, and as long as its span is open it is what the layer reads there
+-- this is the path that each of these layers reads at a span
+abbrev pub IsReadBy : ForestView → Bits → ℕ → List ℕ → Type 0
+IsReadBy forest layers id text =
+    (layer : ℕ) → IsTrue (has_bit layers.0 layer) → text ≡ path_text (path layer forest.spans id)
+
+-- the path was told at an id that was given, and as long as its span is open it is what its layers read there
 pub record IsRemembered (forest : ForestView) (known : KnownPath) : Type 0 where
   pub issued : IsIssued (table_of forest) known.place
-  pub text : IsOpen forest.spans known.place
-      → arc_str_bytes known.text ≡ path_text (path known.layer forest.spans known.place)
+  pub text : IsOpen forest.spans known.place → IsReadBy forest known.same known.place (arc_str_bytes known.text)
 
 -- the same of each path that is remembered
 pub record Remembers (forest : ForestView) (known : KnownPaths) : Type 0 where

@@ -8,7 +8,7 @@ ghost use Rattle.span_core.specs.Happening.{path_at};
 ghost use Rattle.span_core.specs.inside.Telling.{IsAt, Knows, KnowsPath};
 ghost use Rattle.span_core.specs.inside.Remembering.{Remembers};
 
-use crate::known_paths::{KnownPaths, LAYERS};
+use crate::known_paths::{KnownPaths, only};
 use crate::recent::Recent;
 use span_forest::laws::each_slot_has_one_open_id;
 use span_forest::{Forest, PathText, Span};
@@ -232,15 +232,23 @@ fn walked_text(
     ensures memory { IfErr result (λ fault. fault ≡ Fault.Memory) }
 {
     let seen = text_at(recent.alloc, forest, layer, place, found)?;
+    let same = seen.same;
     let text = paths.tell(place, seen)?;
-    remember(&mut recent.paths, forest, layer, place, &text);
+    remember(&mut recent.paths, forest, same, place, &text);
     Ok(text)
 }
 
-// Remembers the text of a layer's path, if it was read at a span and notes may share it.
-fn remember(known: &mut KnownPaths, forest: &Forest, layer: u32, place: &Option<Id>, text: &ArcStr)
+// Remembers the text of the path that these layers see, if it was read at a span and notes may share it.
+fn remember(
+    known: &mut KnownPaths,
+    forest: &Forest,
+    layers: Bits,
+    place: &Option<Id>,
+    text: &ArcStr,
+)
     requires open { IfSome place.now (IsOpen forest.now.spans) }
-    requires text { arc_str_bytes text.now ≡ path_text (path_at layer forest.now.spans place.now) }
+    requires text { (layer : ℕ) → IsTrue (has_bit layers.0 layer) →
+        arc_str_bytes text.now ≡ path_text (path_at layer forest.now.spans place.now) }
     requires remembers { Remembers forest.now known.old }
     ensures remembers { Remembers forest.now known.new }
 {
@@ -249,12 +257,12 @@ fn remember(known: &mut KnownPaths, forest: &Forest, layer: u32, place: &Option<
     }
     each_slot_has_one_open_id(forest);
     if let Some(id) = place {
-        known.keep(layer, *id, text);
+        known.keep(layers, *id, text);
     }
 }
 
-// Remembers the paths that layers were told of a new span, as many as it has places, where notes may share them: each
-// layer reads its own there from now on.
+// Remembers the paths that layers were told of a new span, where notes may share them: each layer reads its own there
+// from now on.
 pub(crate) fn remember_new(recent: &mut Recent, forest: &Forest, id: Id, notes: &[Note])
     requires open { IsOpen forest.now.spans id }
     requires told { All (λ note. arc_str_bytes note.path ≡ path_text (path note.layer forest.now.spans id)) notes.now }
@@ -265,8 +273,8 @@ pub(crate) fn remember_new(recent: &mut Recent, forest: &Forest, id: Id, notes: 
         return;
     }
     each_slot_has_one_open_id(forest);
-    for note in notes.iter().take(LAYERS as usize) {
-        recent.paths.keep(note.layer, id, &note.path);
+    for note in notes {
+        recent.paths.keep(only(note.layer), id, &note.path);
     }
 }
 

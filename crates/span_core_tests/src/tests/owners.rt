@@ -21,11 +21,13 @@ const LIMITS: Limits = Limits {
     ring: 4,
 };
 
-// A core over a ring with one layer, whose closures do what the watch says, and the ring's drain.
-fn opened(rt: &impl Abort, alloc: Global, watch: &Watch) -> (Core<Ring>, Drain) {
+// A core over a ring with so many layers, whose closures do what the watch says, and the ring's drain.
+fn opened(rt: &impl Abort, alloc: Global, watch: &Watch, count: usize) -> (Core<Ring>, Drain) {
     let mut layers = Layers::new(alloc);
-    let hooks = hooks(rt, alloc, watch);
-    add(alloc, &mut layers, &EVERYTHING, hooks).expect(rt, "a layer");
+    for _ in 0..count {
+        let hooks = hooks(rt, alloc, watch);
+        add(alloc, &mut layers, &EVERYTHING, hooks).expect(rt, "a layer");
+    }
     ringed(rt, alloc, &LIMITS, layers)
 }
 
@@ -59,15 +61,29 @@ static OWNERS: [(Act<'static>, u64); 9] = [
     (Act::Exit(16777217), 2),
 ];
 
+// Two layers that see one path have it as one owner more beside their notes.
+static OWNERS_OF_TWO: [(Act<'static>, u64); 5] = [
+    (Act::New("a"), 3),
+    (Act::Enter(1), 3),
+    (HI, 3),
+    (Act::Exit(1), 3),
+    (Act::Close(1), 2),
+];
+
+// With so many layers these acts' paths have so many owners.
+fn have_owners(rt: &impl Abort, alloc: Global, layers: usize, owners: &[(Act<'static>, u64)]) {
+    let watch = Watch::new(alloc, Noting::Owners, Refused::None).expect(rt, "memory");
+    let (mut core, mut drain) = opened(rt, alloc, &watch, layers);
+    for (act, owners) in owners {
+        let found = noted_at(rt, alloc, &mut core, &mut drain, &watch, act);
+        same(rt, found, *owners, *owners);
+    }
+}
+
 #[test]
 fn a_path_is_given_up_with_its_span(rt: HostRuntime) {
-    let alloc = rt.alloc();
-    let watch = Watch::new(alloc, Noting::Owners, Refused::None).expect(&rt, "memory");
-    let (mut core, mut drain) = opened(&rt, alloc, &watch);
-    for (act, owners) in &OWNERS {
-        let found = noted_at(&rt, alloc, &mut core, &mut drain, &watch, act);
-        same(&rt, found, *owners, *owners);
-    }
+    have_owners(&rt, rt.alloc(), 1, &OWNERS);
+    have_owners(&rt, rt.alloc(), 2, &OWNERS_OF_TWO);
 }
 
 // The room of the value of an event whose one field has so many bytes.
@@ -89,7 +105,7 @@ fn room_of(
 fn an_earlier_events_memory_is_used_again(rt: HostRuntime) {
     let alloc = rt.alloc();
     let watch = Watch::new(alloc, Noting::Room, Refused::None).expect(&rt, "memory");
-    let (mut core, mut drain) = opened(&rt, alloc, &watch);
+    let (mut core, mut drain) = opened(&rt, alloc, &watch, 1);
     let first = room_of(&rt, alloc, &mut core, &mut drain, &watch, 33);
     same(&rt, first, 33, "the first");
     for nth in 2..17u64 {

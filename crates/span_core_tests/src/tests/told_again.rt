@@ -1,4 +1,4 @@
-//! Paths that are told again at a span whose layers are so many that the paths of two take each other's place.
+//! Paths that are told again at a span whose layers see different ones.
 use crate::tests::acts::Act;
 use crate::tests::play::{Play, SMALL};
 use span_component_tests::plans::{EVERYTHING, Plan, Wanted};
@@ -46,7 +46,7 @@ pub(crate) const KEPT_ON_A_RING: Play<'static> = Play {
     expected: ON_A_RING_ANSWERS,
 };
 
-// Each layer sees another path than the one whose place its own takes, four before it.
+// Each layer sees another path than the one four before it.
 const SEVEN: [Plan<'static>; 7] = [
     EVERYTHING,
     (Form::Compact, Wanted::All, "app", Level::Trace),

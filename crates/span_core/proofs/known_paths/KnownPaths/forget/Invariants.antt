@@ -5,5 +5,5 @@ use Rattle.span_core.proofs.known_paths.KnownPaths.forget.Given as goal
 abbrev pub invariant-loop-id : goal.invariant-loop-id
 invariant-loop-id l = (forest : ForestView) → Remembers forest l.initial.self → Remembers forest l.self
 
-abbrev pub invariant-loop-layer : goal.invariant-loop-layer
-invariant-loop-layer l = (forest : ForestView) → Remembers forest l.initial.self → Remembers forest l.self
+abbrev pub invariant-loop-way : goal.invariant-loop-way
+invariant-loop-way l = (forest : ForestView) → Remembers forest l.initial.self → Remembers forest l.self
