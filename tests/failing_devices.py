@@ -30,7 +30,7 @@ def long_script():
     return '{"op":"layer"}\n' + "".join(lines)
 
 
-LONG = "x" * 20000
+LONG = "x" * 40_000
 LONG_LINES = "".join([
     '{"op":"layer"}\n',
     f'{{"op":"event","message":"{LONG}"}}\n',
@@ -50,11 +50,14 @@ class Runs:
 
     def run(self, script, **variables):
         """The status, what was written, standard error, and the calls: `r` and `w` for each."""
-        with tempfile.TemporaryFile() as notices:
+        # From a file, so that each run reads by the same calls.
+        with tempfile.TemporaryFile() as notices, tempfile.TemporaryFile() as source:
+            source.write(script.encode())
+            source.seek(0)
             os.dup2(notices.fileno(), NOTICE)
             try:
                 found = subprocess.run(
-                    self.words, input=script.encode(), capture_output=True, timeout=60,
+                    self.words, stdin=source, capture_output=True, timeout=60,
                     env={"LD_PRELOAD": self.shim, **variables}, pass_fds=[NOTICE],
                 )
             finally:

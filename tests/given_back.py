@@ -22,7 +22,7 @@ import time
 from run_cases import current_program
 from soak import COUNTS, counting
 
-LAYERS, SPANS, CALLS = 64, 128, 5000
+LAYERS, SPANS, CALLS = 64, 128, 10_000
 MESSAGE = "x" * 40_000
 PIPE, SET_PIPE_SIZE = 4096, 1031
 SETTLES = 0.5
@@ -53,7 +53,7 @@ def bytes_now(counts):
 
 
 def begun(program, folder, counts):
-    """The running program, and where its output is read: few bytes of it fit in between."""
+    """The running program, and where its output is read: in between fit a pipe and the program's buffer of 32 KiB."""
     path = os.path.join(folder, "script")
     with open(path, "w", encoding="utf-8") as file:
         file.write(script())

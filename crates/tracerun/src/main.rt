@@ -20,6 +20,10 @@ use std::process::ExitCode;
 use tracerun_command_line::orders::Order;
 use tracerun_command_line::{order_of, status};
 
+/// How many bytes of the output are gathered before they are written: as many as a piece that `span_run` writes at least,
+/// so that a write that is interrupted is made again.
+const BUFFER: usize = 32_768;
+
 fn main(rt: HostRuntime) -> io::Result<ExitCode> {
     match order(&rt) {
         Ok(Order::Replay) => status_of(&rt, replay(&rt)),
@@ -85,7 +89,7 @@ fn no_order(rt: &HostRuntime, none: &NoOrder) -> io::Result<ExitCode> {
 /// so the system frees what the run kept.
 fn replay(rt: &HostRuntime) -> Result<(), Failure> {
     let alloc = rt.alloc();
-    let Ok(buffer) = BufWriter::new(alloc, rt.stdout()) else {
+    let Ok(buffer) = BufWriter::with_capacity(alloc, BUFFER, rt.stdout()) else {
         return Err(Failure::Memory);
     };
     let mut input = Counted::new(rt.stdin());
@@ -102,7 +106,7 @@ fn why(rt: &HostRuntime, span: &Option<String>) -> Result<(), Failure> {
         Some(label) => Some(label.as_str()),
         None => None,
     };
-    let Ok(buffer) = BufWriter::new(alloc, rt.stdout()) else {
+    let Ok(buffer) = BufWriter::with_capacity(alloc, BUFFER, rt.stdout()) else {
         return Err(Failure::Memory);
     };
     let mut input = Counted::new(rt.stdin());

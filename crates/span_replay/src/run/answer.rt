@@ -1,5 +1,5 @@
 //! What a call answers, as a line of text.
-ghost use Rattle.std.specs.Prelude.{◌≡◌, ◌++◌, IfErr, OnOk, decimal};
+ghost use Rattle.std.specs.Prelude.{◌≡◌, ◌++◌, IfErr, OnOk, codes, decimal};
 ghost use Rattle.span_outlet.specs.Lines.{plain_line};
 ghost use Rattle.span_replay.specs.Answer.{answer_text, found_text, left_text};
 ghost use Rattle.span_replay.specs.Written.{note_line};
@@ -100,11 +100,22 @@ pub fn write_found(text: &mut Vec<u8>, found: &Found<'_>) -> io::Result<()>
 pub fn write_note(text: &mut Vec<u8>, line: &Line) -> io::Result<()>
     ensures { OnOk result (text.new.items ≡ text.old.items ++ note_line (plain_line line.now)) }
 {
-    put(text, b"L")?;
-    write_number(text, u64::from(line.layer))?;
-    put(text, b" ")?;
+    write_layer(text, line.layer)?;
     put(text, line.text.as_slice())?;
     put(text, b"\n")
+}
+
+/// Appends a layer's number between its mark and a blank, at once where it has one digit, as most have. The only error is
+/// that memory was refused.
+fn write_layer(text: &mut Vec<u8>, layer: u32) -> io::Result<()>
+    ensures { OnOk result (text.new.items ≡ text.old.items ++ (codes "L" ++ (decimal layer ++ codes " "))) }
+{
+    if layer < 10 {
+        return put(text, &[b'L', b'0' + layer as u8, b' ']);
+    }
+    put(text, b"L")?;
+    write_number(text, u64::from(layer))?;
+    put(text, b" ")
 }
 
 /// Appends bytes to a text. The only error is that memory was refused.

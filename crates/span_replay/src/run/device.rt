@@ -17,6 +17,9 @@ use std::io::{Read, Write};
 /// The most bytes that a script may have.
 const MOST_BYTES: usize = 16_777_216;
 
+/// How many bytes are read at once.
+const BLOCK: usize = 32_768;
+
 /// Reads a script to its end.
 ///
 /// A script of more than 16,777,216 bytes is the fault `TooLong` of line 0.
@@ -30,7 +33,7 @@ pub fn read_script<R: Read>(alloc: Global, input: &mut Counted<R>) -> Result<Vec
     ensures reads { calls_of input.new ≤ calls_of input.old + 16777217 }
 {
     let mut bytes = Vec::new(alloc);
-    let mut block = [0u8; 4096];
+    let mut block = [0u8; BLOCK];
     while bytes.len() <= MOST_BYTES {
         // Of a script that is too long one byte too many is read, and no more.
         let room = block.len().min(MOST_BYTES + 1 - bytes.len());
