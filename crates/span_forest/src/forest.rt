@@ -30,8 +30,8 @@ use std::marker::Model;
 
 /// The open spans, each under its id, with what holds them.
 ///
-/// No call costs more than its work: `release` and `closing` go along the spans that close, `path`, `path_text` and
-/// `path_text_below` along the walk to the root, `write_fields` and `share_fields` over what they copy, and `new` and the
+/// No call costs more than its work: what releases or asks what closes goes along the spans that close, what tells a
+/// path along the walk to the root, `write_fields` and `share_fields` over what they copy, and `new` and the
 /// lists (`open_spans`, `held_spans`, `holders_of`) over the slots. All others cost the same however many spans are open.
 /// What a forest promises beside its calls' contracts is said by the functions of [`laws`].
 #[derive(Debug, Drop)]

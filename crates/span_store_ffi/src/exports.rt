@@ -1,4 +1,4 @@
-//! What C calls. Each function takes whatever C passes, tests it, and answers the number of a status.
+//! What C calls. Each function takes whatever numbers C passes, tests them, and answers the number of a status.
 ghost use Rattle.std.specs.Prelude.{◌≡◌, Some, None, Option, is_some, if◌then◌else◌, IfSome, IfNone, IfOk, IfErr};
 ghost use Rattle.span_slots.specs.Table.{find};
 ghost use Rattle.span_store.specs.StoredSpans.{is_closing};

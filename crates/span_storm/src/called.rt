@@ -2,7 +2,7 @@
 //!
 //! A thread is sent what is a type parameter with its bounds, and nothing that rests on a bound of a type made of one.
 //! So that a registry of the layers' `Admitters<A>`, and a drain of their `Formatters<F>`, may go to threads for every
-//! `A` and `F`, a storm has a parameter for each of these too, and these traits say that they are the same.
+//! `A` and `F`, a storm has a parameter for each of these too, and these traits pass them on as they are.
 ghost use Rattle.std.specs.Prelude.{◌≡◌};
 
 use span_layers::{Admitters, Formatters};
