@@ -9,8 +9,8 @@ NAME is one of the files, without its end, and KIND one of
 - counted: whatever else is at work;
 - fresh: in a fresh clone, on a machine that has proved nothing of it, with nothing else at work.
 CHECKOUT and PROGRAM are those of bench/run: the start's checkout, and the workloads in plain Rust, which are no part of
-the repository; of --before it is the tracerun of d36657c9, before lines shared metas. A file whose command needs one
-that isn't given isn't measured, and that is said. With --list the commands are shown, with about how many minutes each
+the repository; of --before it is the tracerun of the commit beside which the file was measured. A file whose command
+needs one that isn't given isn't measured, and that is said. With --list the commands are shown, with about how many minutes each
 takes. tests/figures.py --write and tests/pictures.py --write then take the figures to the pages. The last line is
 'N measured, M failed'.
 """

@@ -26,8 +26,10 @@ MOST_CALLS = 100  # of a run with more the first ones alone are refused in turn,
 
 def long_script():
     """Its text takes several writes."""
-    lines = [f'{{"op":"new","name":"span{n}","fields":[["k","{"v" * 50}"]]}}\n' for n in range(1500)]
-    return '{"op":"layer"}\n' + "".join(lines)
+    made = [f'{{"op":"new","name":"span{n}","fields":[["k","{"v" * 50}"]]}}\n' for n in range(6000)]
+    closed = [f'{{"op":"close","span":"span{n}"}}\n' for n in range(5000)]
+    turns = (f"{new}{close}" for new, close in zip(made, closed))
+    return '{"op":"layer"}\n' + "".join([*turns, *made[5000:]])
 
 
 LONG = "x" * 40_000
