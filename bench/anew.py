@@ -43,6 +43,7 @@ COMMANDS = [
     Command("calls chains", "timed", 5, "bench/calls.py --figures"),
     Command("border disabled", "timed", 4, "bench/border.py --runs 4 --figures"),
     Command("parts", "timed", 5, "bench/parts.py --figures"),
+    Command("throughput", "timed", 4, "bench/throughput.py --runs 4 --figures"),
     Command("tracing-clock", "timed", 4, "bench/tracing.py clock --figures"),
     Command("tracing", "counted", 10, "bench/tracing.py instructions --figures"),
     Command("tracing-registry", "counted", 2, "bench/tracing.py proved --figures"),

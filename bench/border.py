@@ -38,9 +38,9 @@ OF_RUST = {
 CALLS = 4  # of a round
 
 
-def said_by_example(library, name):
-    """What an example of the Rust package prints."""
-    words = ["cargo", "run", "--quiet", "--release", "--offline", "--example", name]
+def said_by_example(library, name, *given):
+    """What an example of the Rust package prints, which is given these words."""
+    words = ["cargo", "run", "--quiet", "--release", "--offline", "--example", name, "--", *given]
     places = {**os.environ, "SPAN_REGISTRY_LIB": str(library.resolve().parent)}
     return subprocess.run(words, cwd=TOP / "rust", env=places, check=True, capture_output=True, text=True).stdout
 

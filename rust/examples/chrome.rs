@@ -29,9 +29,16 @@ fn arguments(note: &Note) -> String {
     let id = note.id.or(note.parent).map_or(0, |id| id.into_u64());
     let mut arguments = format!("\"span\":{id}");
     for field in &note.fields {
-        let value = match field.kind {
-            Kind::Integer | Kind::Bool => field.value.clone(),
-            _ => quoted(&field.value),
+        let is_json = match field.kind {
+            Kind::Integer | Kind::Bool => true,
+            // (JSON has no infinite number, and none for `NaN`)
+            Kind::Float => field.value.parse().is_ok_and(f64::is_finite),
+            Kind::Text => false,
+        };
+        let value = if is_json {
+            field.value.clone()
+        } else {
+            quoted(&field.value)
         };
         arguments += &format!(",{}:{value}", quoted(&field.key));
     }
@@ -96,7 +103,7 @@ fn main() -> Result<(), Box<dyn Error>> {
                     thread::sleep(Duration::from_millis(2));
                     let query = span!(registry, Level::Debug, "query", table = "users");
                     query.in_scope(|| thread::sleep(Duration::from_millis(3)));
-                    event!(registry, Level::Info, { rows = 7 * number }, "read");
+                    event!(registry, Level::Info, { rows = 7 * number, share = f64::from(number) / 9.0 }, "read");
                 }
             });
         }

@@ -6,12 +6,11 @@ use crate::parts::Parts;
 use crate::refusal::Refusal;
 use crate::state::State;
 use crate::workers;
-use std::sync::Arc;
 
 /// The part that a call goes to. Whether it is one of several is looked at once.
 #[derive(Clone, Copy)]
 pub(crate) struct At<'a> {
-    pub(crate) part: &'a Arc<Part>,
+    pub(crate) part: &'a Part,
     // All of them, where they are several.
     several: Option<&'a Parts>,
 }
@@ -19,7 +18,7 @@ pub(crate) struct At<'a> {
 impl<'a> At<'a> {
     /// The only part of its registry.
     #[inline(always)]
-    pub(crate) fn only(part: &'a Arc<Part>) -> At<'a> {
+    pub(crate) fn only(part: &'a Part) -> At<'a> {
         At { part, several: None }
     }
 

@@ -281,7 +281,7 @@ impl Making<'_> {
         // So no two parts have a worker's number in common.
         let first_worker = place * self.limits.workers;
         let state = State::new(core, Arc::clone(&ring), self.common.debt(), first_worker)?;
-        Ok(Arc::new(Part::new(state, ring, Arc::clone(&self.common), place)))
+        Ok(Part::new(state, ring, Arc::clone(&self.common), place))
     }
 }
 

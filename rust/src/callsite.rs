@@ -18,9 +18,29 @@ pub struct Callsite {
     registry: u64,
     // Among the callsites of its registry.
     number: u32,
+    is_enabled: bool,
 }
 
 impl Callsite {
+    /// Whether some layer admits what is made at it, as [`enabled_at`](Registry::enabled_at) answered when the callsite
+    /// was made, since rules never change. It takes no lock.
+    ///
+    /// Where it is false, no layer is told of an event, and spans are made only where there is no layer.
+    ///
+    /// ```
+    /// # fn main() -> Result<(), span_registry::Error> {
+    /// use span_registry::{Layer, Level, Meta, Registry};
+    /// let (registry, _drain) = Registry::builder().layer(Layer::compact().with_max_level(Level::Info)).build()?;
+    /// let dump = registry.callsite(&Meta::event(Level::Trace, "app::db"))?;
+    /// assert!(!dump.is_enabled()); // so the text of a dump needn't be made
+    /// # Ok(())
+    /// # }
+    /// ```
+    #[must_use]
+    pub fn is_enabled(self) -> bool {
+        self.is_enabled
+    }
+
     // Its number, where it is one of this registry.
     fn number_in(self, registry: &Registry) -> Result<u32, Error> {
         if self.registry == registry.number() {
@@ -60,14 +80,19 @@ impl Registry {
     /// ```
     pub fn callsite(&self, meta: &Meta<'_>) -> Result<Callsite, Error> {
         let number = named(meta, &Given::NONE, move |meta, _| self.parts().add_callsite(meta))?;
-        Ok(Callsite {
+        let callsite = Callsite {
             registry: self.number(),
             number,
-        })
+            is_enabled: self.enabled(meta.level, meta.target),
+        };
+        // What the proved registry says counts, where it can be asked.
+        let is_enabled = self.enabled_at(&callsite).unwrap_or(callsite.is_enabled);
+        Ok(Callsite { is_enabled, ..callsite })
     }
 
     /// Whether some layer admits what is made at a callsite: the proved registry's own answer, under its lock.
-    /// [`enabled`](Registry::enabled) says it of any level and target, and takes none.
+    /// [`is_enabled`](Callsite::is_enabled) says the same, and [`enabled`](Registry::enabled) says it of any level and
+    /// target; they take none.
     ///
     /// # Errors
     /// [`OtherRegistry`](Error::OtherRegistry).

@@ -206,13 +206,23 @@ impl Error {
     }
 }
 
+// Texts that take more than a line.
+const UNKNOWN: &str = "unknown: no open span has this id, or all its handles were given back; \
+                       keep a handle as long as the id is used";
+const COUNT_FULL: &str = "count full: the span has max_count handles, threads inside and open children; \
+                          give some back, or ask for more with `RegistryBuilder::max_count`";
+const NOT_ENTERED: &str = "not entered: the thread isn't inside this span; \
+                           leave it in the thread that entered it, once for each entry";
+const OUT_OF_MEMORY: &str = "out of memory: the call did nothing; \
+                             make it again later, or ask for less with `RegistryBuilder::slots`";
+
 impl fmt::Display for Error {
     fn fmt(&self, f: &mut fmt::Formatter<'_>) -> fmt::Result {
         f.write_str(match *self {
-            Error::Unknown => "unknown: no open span has this id, or all its handles were given back",
-            Error::CountFull => "count full: the span has max_count handles, threads inside and open children",
+            Error::Unknown => UNKNOWN,
+            Error::CountFull => COUNT_FULL,
             Error::Full => "full: each slot has an open span; ask for more with `RegistryBuilder::slots`",
-            Error::NotEntered => "not entered: the thread isn't inside this span",
+            Error::NotEntered => NOT_ENTERED,
             Error::TooManyLayers => "too many layers: at most 64",
             Error::BadName(name) => {
                 let rule = "over 64 bytes, with 3 for each but ASCII letters, digits, `_`, `.` and `-`";
@@ -227,7 +237,7 @@ impl fmt::Display for Error {
                     limit.most()
                 );
             }
-            Error::OutOfMemory => "out of memory",
+            Error::OutOfMemory => OUT_OF_MEMORY,
             Error::BadData => "bad data: a text has 4 GiB or more",
             Error::TooManyThreads => "too many threads: more are inside spans than `RegistryBuilder::workers` says",
             Error::OtherRegistry => "other registry: the callsite, id or span is none of this registry",

@@ -103,14 +103,17 @@ pub(crate) fn named<T>(meta: &Meta<'_>, given: &Given<'_>, call: impl Named<T>) 
     };
     match made {
         Ok(answer) => Ok(answer),
-        Err(refusal) => Ok(with_written(refusal, meta, given, call)?),
+        Err(refusal) => {
+            let again = call;
+            Ok(with_written(refusal, meta, given, &again)?)
+        }
     }
 }
 
 // Makes a call again that was refused for its names, with the name and the keys as they are written.
 #[cold]
 #[inline(never)]
-fn with_written<T>(refusal: Refusal, meta: &Meta<'_>, given: &Given<'_>, call: impl Named<T>) -> Result<T, Error> {
+fn with_written<T>(refusal: Refusal, meta: &Meta<'_>, given: &Given<'_>, call: &impl Named<T>) -> Result<T, Error> {
     if refusal != Refusal::BAD_NAME {
         return Err(refusal.into());
     }

@@ -1,14 +1,10 @@
 //! Texts as the C interface takes them: one after another, with their lengths beside them.
 #![forbid(unsafe_code)]
 use crate::meta::Fields;
-use crate::raw::SpanField;
+use crate::raw::{Short, SpanField, FEW};
 use crate::refusal::Refusal;
 use std::cell::Cell;
 
-/// Texts of so many bytes are packed on the caller's stack.
-const SHORT: usize = 192;
-/// With so many fields.
-const FEW: usize = 6;
 /// A buffer of texts that grew past this is given back before the next call.
 const KEPT: usize = 8 * 1024;
 /// The same of one of fields.
@@ -58,18 +54,15 @@ pub(crate) fn packed<T>(
     fields: Fields<'_>,
     call: impl FnOnce(Texts<'_>) -> Result<T, Refusal>,
 ) -> Result<T, Refusal> {
-    let (mut few, mut short);
+    let mut short = Short::new();
     let mut long = None;
     let texts = match (first, fields) {
         ([], []) => Texts::of_one(""),
         ([text], []) => Texts::of_one(text),
-        _ => {
-            (few, short) = ([SpanField::default(); FEW], [0; SHORT]);
-            match pack_short(&mut few, &mut short, first, fields) {
-                Some(texts) => texts,
-                None => Packed::with_long(&mut long, first, fields)?,
-            }
-        }
+        _ => match pack_short(&mut short, first, fields) {
+            Some(texts) => texts,
+            None => Packed::with_long(&mut long, first, fields)?,
+        },
     };
     let answer = call(texts);
     if let Some(long) = long {
@@ -78,35 +71,21 @@ pub(crate) fn packed<T>(
     answer
 }
 
-// Packs them where these have room for them.
+// Packs them where there is room for them.
 #[inline(always)]
-fn pack_short<'a>(
-    few: &'a mut [SpanField; FEW],
-    short: &'a mut [u8; SHORT],
-    first: &[&str],
-    fields: Fields<'_>,
-) -> Option<Texts<'a>> {
-    let few = few.get_mut(..fields.len())?;
-    let mut end = 0;
-    let mut push = |text: &str| {
-        let begin = end;
-        end += text.len();
-        short.get_mut(begin..end)?.copy_from_slice(text.as_bytes());
-        u32::try_from(text.len()).ok()
-    };
+fn pack_short<'a>(short: &'a mut Short, first: &[&str], fields: Fields<'_>) -> Option<Texts<'a>> {
+    if fields.len() > FEW {
+        return None;
+    }
+    let mut filling = short.fill();
     for text in first {
-        push(text)?;
+        filling.push(text)?;
     }
-    for (place, (key, value)) in few.iter_mut().zip(fields) {
-        *place = SpanField {
-            key_len: push(key)?,
-            value_len: push(value)?,
-        };
+    for (key, value) in fields {
+        filling.push_field(key, value)?;
     }
-    Some(Texts {
-        fields: few,
-        bytes: &short[..end],
-    })
+    let (fields, bytes) = filling.filled();
+    Some(Texts { fields, bytes })
 }
 
 /// The texts of one call, or of what one says. Its memory is used again for the next call.
@@ -235,7 +214,8 @@ pub(crate) fn copied(text: &str) -> Result<String, Refusal> {
 
 #[cfg(test)]
 mod tests {
-    use super::{packed, Packed, FEW, KEPT, LONG, SHORT};
+    use super::{packed, Packed, FEW, KEPT, LONG};
+    use crate::raw::SHORT;
     use crate::refusal::Refusal;
 
     #[test]

@@ -11,7 +11,7 @@ use crate::state::State;
 use crate::workers;
 use crate::writer::Asked;
 use std::sync::atomic::{AtomicBool, AtomicU32, AtomicU64, Ordering};
-use std::sync::{Arc, Mutex, MutexGuard, OnceLock, PoisonError};
+use std::sync::{Arc, Mutex, MutexGuard, OnceLock, PoisonError, Weak};
 use std::thread;
 use std::time::Duration;
 
@@ -101,8 +101,8 @@ impl Common {
     }
 }
 
-/// A call as a worker. It may be made again, and is copied for that: so where it is done at once, nothing of it has to
-/// stand in memory.
+/// A call as a worker. It may be made again, and is copied for that, where it comes to that: so where it is done at
+/// once, nothing of it has to stand in memory.
 pub(crate) trait Calling<T>: Fn(&mut State, u32) -> Result<T, Refusal> + Copy {}
 impl<T, F: Fn(&mut State, u32) -> Result<T, Refusal> + Copy> Calling<T> for F {}
 
@@ -111,6 +111,8 @@ impl<T, F: Fn(&mut State, u32) -> Result<T, Refusal> + Copy> Calling<T> for F {}
 #[repr(align(128))]
 pub(crate) struct Part {
     state: Mutex<State>,
+    // For threads that keep a number in it.
+    itself: Weak<Part>,
     ring: Arc<Ring>,
     common: Arc<Common>,
     losses: Arc<Losses>,
@@ -123,17 +125,23 @@ pub(crate) struct Part {
 }
 
 impl Part {
-    pub(crate) fn new(state: State, ring: Arc<Ring>, common: Arc<Common>, place: u32) -> Part {
-        Part {
+    pub(crate) fn new(state: State, ring: Arc<Ring>, common: Arc<Common>, place: u32) -> Arc<Part> {
+        Arc::new_cyclic(|itself| Part {
             first_worker: state.as_told(0),
             debt: Arc::clone(state.debt()),
             state: Mutex::new(state),
+            itself: Weak::clone(itself),
             ring,
             number: common.number + u64::from(place),
             losses: Arc::clone(&common.losses),
             common,
             place,
-        }
+        })
+    }
+
+    /// A weak reference to this part.
+    pub(crate) fn weak(&self) -> Weak<Part> {
+        Weak::clone(&self.itself)
     }
 
     /// Runs a call under the lock. No code of the program's runs there but its global allocator, which must not call
@@ -187,13 +195,16 @@ impl Part {
     /// then the call, and then, where there is room, what was lost. What other parts owe comes before that.
     #[inline(always)]
     pub(crate) fn call<T>(
-        self: &Arc<Part>,
+        &self,
         number: fn(&mut State, Caller) -> Result<u32, Refusal>,
         call: impl Calling<T>,
     ) -> Result<T, Refusal> {
         match self.call_now(number, call) {
             Ok(answer) => Ok(answer),
-            Err(refusal) => Ok(self.call_later(refusal, number, call)?),
+            Err(refusal) => {
+                let again = call;
+                Ok(self.call_later(refusal, number, &again)?)
+            }
         }
     }
 
@@ -201,14 +212,14 @@ impl Part {
     #[cold]
     #[inline(never)]
     fn call_later<T>(
-        self: &Arc<Part>,
+        &self,
         refusal: Refusal,
         number: fn(&mut State, Caller) -> Result<u32, Refusal>,
-        call: impl Calling<T>,
+        call: &impl Calling<T>,
     ) -> Result<T, Refusal> {
         let (mut result, mut turn) = (Err(refusal), 0_u32);
         while matches!(result, Err(Refusal::BACKLOG)) && self.has_waited(turn) {
-            result = self.call_now(number, call);
+            result = self.call_now(number, *call);
             turn = turn.saturating_add(1);
         }
         result
@@ -218,7 +229,7 @@ impl Part {
     // for.
     #[inline(always)]
     fn call_now<T>(
-        self: &Arc<Part>,
+        &self,
         number: fn(&mut State, Caller) -> Result<u32, Refusal>,
         call: impl Calling<T>,
     ) -> Result<T, Refusal> {
@@ -236,7 +247,7 @@ impl Part {
 
     #[inline(always)]
     fn called<T>(
-        self: &Arc<Part>,
+        &self,
         state: &mut State,
         caller: Caller,
         number: fn(&mut State, Caller) -> Result<u32, Refusal>,
@@ -253,7 +264,7 @@ impl Part {
     // As which worker a thread calls that has no number.
     #[cold]
     fn numbered(
-        self: &Arc<Part>,
+        &self,
         state: &mut State,
         caller: Caller,
         number: fn(&mut State, Caller) -> Result<u32, Refusal>,

@@ -1,4 +1,5 @@
-//! The C interface of `include/span_registry.h`, declaration by declaration, and owners of its two handles.
+//! The C interface of `include/span_registry.h`, declaration by declaration, owners of its two handles, and room for
+//! texts that are handed over.
 //!
 //! All unsafe code of this crate is in this module.
 mod abi;
@@ -6,11 +7,15 @@ mod calls;
 mod closing;
 mod lines;
 mod queries;
+mod short;
 mod telling;
 
 pub(crate) use calls::{Core, Start};
 pub(crate) use closing::Closed;
 pub(crate) use lines::{Lines, Next, NextNote};
+#[cfg(test)]
+pub(crate) use short::SHORT;
+pub(crate) use short::{Short, FEW};
 
 use std::ffi::c_void;
 use std::ptr;

@@ -205,7 +205,7 @@ impl Registry {
                 at.call(move |state, worker| state.new_span(worker, meta, parent, given, texts))
             })
         })?;
-        Ok(made.map(|id| (&**at.part, id)))
+        Ok(made.map(|id| (at.part, id)))
     }
 
     /// Puts fields at the end of a span's list. A repeated key stands twice.

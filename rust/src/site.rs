@@ -18,14 +18,19 @@ pub struct Site {
     is_of_spans: bool,
     file: &'static str,
     line: u32,
-    // In the upper half the key of the registry that asked last, and in the lower the callsite's number there, or
-    // UNWANTED.
+    // In the upper half the key of the registry that was looked up last, and in the lower the callsite's number there,
+    // or UNWANTED.
     known: AtomicU64,
+    // What stood there before, each where its registry's key says. So two registries, and mostly a few, may ask in
+    // turn.
+    earlier: [AtomicU64; EARLIER],
 }
 
 /// No registry's key.
 pub(crate) const NO_KEY: u32 = 0;
 const UNWANTED: u32 = u32::MAX;
+const UNKNOWN: u64 = (NO_KEY as u64) << 32;
+const EARLIER: usize = 4;
 
 impl Site {
     /// A place of spans.
@@ -46,7 +51,8 @@ impl Site {
             is_of_spans,
             file,
             line,
-            known: AtomicU64::new((NO_KEY as u64) << 32),
+            known: AtomicU64::new(UNKNOWN),
+            earlier: [const { AtomicU64::new(UNKNOWN) }; EARLIER],
         }
     }
 
@@ -56,11 +62,11 @@ impl Site {
     }
 
     /// What is made here by this registry; none where no layer wants it. From the second call on that is a load and a
-    /// branch.
+    /// branch, or two loads where another registry was looked up since.
     #[inline]
     pub fn wanted_by<'a>(&'static self, registry: &'a Registry) -> Option<Wanted<'a>> {
         let known = self.known.load(Ordering::Relaxed);
-        let is_known = (known >> 32) as u32 == registry.key() && registry.key() != NO_KEY;
+        let is_known = key_of(known) == registry.key() && registry.key() != NO_KEY;
         if is_known && known as u32 == UNWANTED {
             return None;
         }
@@ -75,6 +81,10 @@ impl Site {
     // Its callsite, or why it can have none.
     #[cold]
     fn looked_up(&'static self, registry: &Registry) -> Option<Result<u32, Error>> {
+        let earlier = self.earlier_of(registry.key()).load(Ordering::Relaxed);
+        if key_of(earlier) == registry.key() && registry.key() != NO_KEY {
+            return (earlier as u32 != UNWANTED).then_some(Ok(earlier as u32));
+        }
         if !self.is_wanted(registry) {
             self.keep(registry, UNWANTED);
             return None;
@@ -107,9 +117,20 @@ impl Site {
     fn keep(&self, registry: &Registry, number: u32) {
         if registry.key() != NO_KEY {
             let known = (u64::from(registry.key()) << 32) | u64::from(number);
-            self.known.store(known, Ordering::Relaxed);
+            let before = self.known.swap(known, Ordering::Relaxed);
+            self.earlier_of(key_of(before)).store(before, Ordering::Relaxed);
         }
     }
+
+    fn earlier_of(&self, key: u32) -> &AtomicU64 {
+        &self.earlier[key as usize % EARLIER]
+    }
+}
+
+// Of whose registry it is known.
+#[inline]
+fn key_of(known: u64) -> u32 {
+    (known >> 32) as u32
 }
 
 /// A span or an event that some layer wants. For the macros.
@@ -156,5 +177,56 @@ impl Wanted<'_> {
     /// For `event!`.
     pub fn event<const N: usize>(&self, parent: Parent, message: &str, fields: [Field; N]) {
         self.registry.or_lost(self.try_event(parent, message, fields));
+    }
+}
+
+#[cfg(test)]
+mod tests {
+    use super::{key_of, Site, EARLIER};
+    use crate::{Error, Layer, Level, Registry};
+    use std::sync::atomic::Ordering;
+
+    fn registry(most: Level) -> Result<Registry, Error> {
+        let layer = Layer::compact().with_max_level(most);
+        let (registry, _drain) = Registry::builder().layer(layer).build()?;
+        Ok(registry)
+    }
+
+    /// Whether it is answered without a look under its lock.
+    fn is_known(site: &Site, registry: &Registry) -> bool {
+        let all = [&site.known, site.earlier_of(registry.key())];
+        all.map(|known| key_of(known.load(Ordering::Relaxed)))
+            .contains(&registry.key())
+    }
+
+    #[test]
+    fn two_registries_may_ask_in_turn() -> Result<(), Error> {
+        static SITE: Site = Site::event(Level::Info, "app", file!(), line!());
+        for _ in 0..3 * EARLIER {
+            let (loud, quiet) = (registry(Level::Info)?, registry(Level::Warn)?);
+            for turn in 0..3 {
+                for (registry, is_wanted) in [(&loud, true), (&quiet, false)] {
+                    assert_eq!(is_known(&SITE, registry), turn > 0);
+                    assert_eq!(SITE.wanted_by(registry).is_some(), is_wanted);
+                }
+            }
+            assert_eq!(key_of(SITE.known.load(Ordering::Relaxed)), quiet.key());
+        }
+        Ok(())
+    }
+
+    #[test]
+    fn of_more_registries_than_are_known_each_is_told_its_own() -> Result<(), Error> {
+        static SITE: Site = Site::event(Level::Info, "app", file!(), line!());
+        let levels = [Level::Warn, Level::Info, Level::Error].into_iter().cycle();
+        let all = levels.take(5 * EARLIER).map(|most| Ok((registry(most)?, most)));
+        let registries = all.collect::<Result<Vec<_>, Error>>()?;
+        for _ in 0..3 {
+            for (registry, most) in &registries {
+                assert_eq!(SITE.wanted_by(registry).is_some(), *most >= Level::Info);
+                assert!(is_known(&SITE, registry));
+            }
+        }
+        Ok(())
     }
 }

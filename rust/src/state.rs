@@ -19,7 +19,8 @@ use crate::site::Site;
 use crate::stamps::{Answer, Sent};
 use std::sync::Arc;
 
-/// Says what is to be noted of a call, which may be made again: so what is captured is copied.
+/// Says what is to be noted of a call, which may be made again: so what is captured is copied. What seldom runs is lent
+/// a copy that is made there: were it lent this itself, all of it would stand in memory before each call.
 trait Noting: Fn(&Origins) -> Result<What, Refusal> + Copy {}
 impl<F: Fn(&Origins) -> Result<What, Refusal> + Copy> Noting for F {}
 
@@ -169,7 +170,10 @@ impl State {
     fn placed<T: Answer>(&mut self, what: impl Noting, call: impl Sending<T>) -> Result<T, Refusal> {
         match self.sent(what, call) {
             Ok(answer) => Ok(answer),
-            Err(refusal) => Ok(self.placed_later(refusal, what, call)?),
+            Err(refusal) => {
+                let again = (what, call);
+                Ok(self.placed_later(refusal, &again)?)
+            }
         }
     }
 
@@ -179,8 +183,7 @@ impl State {
     fn placed_later<T: Answer>(
         &mut self,
         refusal: Refusal,
-        what: impl Noting,
-        call: impl Sending<T>,
+        &(what, call): &(impl Noting, impl Sending<T>),
     ) -> Result<T, Refusal> {
         let mut result = Err(refusal);
         while matches!(result, Err(Refusal::BACKLOG)) && self.ring.makes_place() {
@@ -193,7 +196,8 @@ impl State {
     #[inline(always)]
     fn sent<T: Answer>(&mut self, what: impl Noting, call: impl Sending<T>) -> Result<T, Refusal> {
         if self.has_more {
-            Ok(self.sent_with_more(what, call)?)
+            let these = (what, call);
+            Ok(self.sent_with_more(&these)?)
         } else {
             call(&mut self.core)
         }
@@ -201,7 +205,7 @@ impl State {
 
     // The same, with a note and a stamp of the batch, where these are kept.
     #[cold]
-    fn sent_with_more<T: Answer>(&mut self, what: impl Noting, call: impl Sending<T>) -> Result<T, Refusal> {
+    fn sent_with_more<T: Answer>(&mut self, &(what, call): &(impl Noting, impl Sending<T>)) -> Result<T, Refusal> {
         let what = match self.ring.notes() {
             Some(notes) => {
                 notes.reserve()?;

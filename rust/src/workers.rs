@@ -7,7 +7,8 @@ use crate::refusal::Refusal;
 use crate::routing::{thread, NOBODY};
 use crate::seats::{Caller, NONE};
 use std::cell::{Cell, RefCell};
-use std::sync::{Arc, Weak};
+use std::ptr;
+use std::sync::Weak;
 
 /// A part in which this thread may have a number, to be given back when it ends.
 struct Place {
@@ -74,7 +75,7 @@ impl Drop for Places {
 
 /// The calling thread, for a call of this part.
 #[inline]
-pub(crate) fn caller(part: &Arc<Part>) -> Caller {
+pub(crate) fn caller(part: &Part) -> Caller {
     let (last, caller) = LAST.get();
     if last == part.number() {
         caller
@@ -84,17 +85,17 @@ pub(crate) fn caller(part: &Arc<Part>) -> Caller {
 }
 
 #[cold]
-fn looked_up(part: &Arc<Part>) -> Caller {
+fn looked_up(part: &Part) -> Caller {
     let place = |places: &RefCell<Places>| {
         let places = &mut *places.borrow_mut();
-        let is_this = |place: &Place| place.part.as_ptr() == Arc::as_ptr(part);
+        let is_this = |place: &Place| ptr::eq(place.part.as_ptr(), part);
         if let Some(place) = places.parts.iter().find(|place| is_this(place)) {
             return Some(place.worker);
         }
         places.forget_the_gone();
         places.parts.try_reserve(1).ok()?;
         places.parts.push(Place {
-            part: Arc::downgrade(part),
+            part: part.weak(),
             registry: part.common().number(),
             worker: NONE,
         });
@@ -112,17 +113,17 @@ fn looked_up(part: &Arc<Part>) -> Caller {
 }
 
 /// The call was made as this worker.
-pub(crate) fn called_as(part: &Arc<Part>, caller: Caller, worker: u32) {
+pub(crate) fn called_as(part: &Part, caller: Caller, worker: u32) {
     if caller.last != worker && caller.may_own() {
         keep(part, Caller { last: worker, ..caller });
     }
 }
 
 #[cold]
-fn keep(part: &Arc<Part>, caller: Caller) {
+fn keep(part: &Part, caller: Caller) {
     let put = |places: &RefCell<Places>| {
         let places = &mut places.borrow_mut().parts;
-        let is_this = |place: &&mut Place| place.part.as_ptr() == Arc::as_ptr(part);
+        let is_this = |place: &&mut Place| ptr::eq(place.part.as_ptr(), part);
         let place = places.iter_mut().find(is_this)?;
         place.worker = caller.last;
         Some(())

@@ -1,16 +1,23 @@
-//! How many allocations a round takes once the memory of slots and buffers is there, this crate's own and the
-//! library's.
+//! How many allocations a thread takes for a round once the memory of slots and buffers is there, this crate's own and
+//! the library's.
 //!
 //! The library takes its memory by three functions of the toolchain's shim, for which this program has its own.
 mod common;
 
 use common::info;
-use span_registry::{Drain, Error, Parent, Registry};
+use span_registry::{Drain, Error, FmtSpan, Layer, Parent, Registry};
 use std::alloc::{GlobalAlloc, Layout, System};
+use std::cell::Cell;
 use std::ffi::c_void;
-use std::sync::atomic::{AtomicU64, Ordering};
 
-static TAKEN: AtomicU64 = AtomicU64::new(0);
+thread_local! {
+    // It takes no memory, and is there to the thread's end.
+    static TAKEN: Cell<u64> = const { Cell::new(0) };
+}
+
+fn take() {
+    TAKEN.set(TAKEN.get() + 1);
+}
 
 struct Counting;
 
@@ -20,13 +27,13 @@ static ALLOCATOR: Counting = Counting;
 // SAFETY: it is the system's.
 unsafe impl GlobalAlloc for Counting {
     unsafe fn alloc(&self, layout: Layout) -> *mut u8 {
-        TAKEN.fetch_add(1, Ordering::Relaxed);
+        take();
         // SAFETY: the caller's.
         unsafe { System.alloc(layout) }
     }
 
     unsafe fn realloc(&self, at: *mut u8, layout: Layout, size: usize) -> *mut u8 {
-        TAKEN.fetch_add(1, Ordering::Relaxed);
+        take();
         // SAFETY: the caller's.
         unsafe { System.realloc(at, layout, size) }
     }
@@ -50,7 +57,7 @@ extern "C" {
 }
 
 fn block(at: *mut c_void) -> Block {
-    TAKEN.fetch_add(1, Ordering::Relaxed);
+    take();
     Block {
         is_there: !at.is_null(),
         at,
@@ -91,12 +98,12 @@ fn of_rounds(
     let mut before = 0;
     for count in 0..2 * ROUNDS {
         if count == ROUNDS {
-            before = TAKEN.load(Ordering::Relaxed);
+            before = TAKEN.get();
         }
         round(registry)?;
         assert_eq!(drain.line(), None);
     }
-    Ok((TAKEN.load(Ordering::Relaxed) - before) / ROUNDS)
+    Ok((TAKEN.get() - before) / ROUNDS)
 }
 
 #[test]
@@ -120,5 +127,28 @@ fn a_round_takes_few_allocations() -> Result<(), Error> {
         registry.span_at(&site, Parent::Current, FIELDS)?.try_in_scope(|| ())
     })?;
     assert_eq!((by_ids, at_callsite, as_span), (8, 5, 6));
+    Ok(())
+}
+
+#[test]
+fn calls_of_which_no_layer_is_told_take_none() -> Result<(), Error> {
+    let layer = Layer::compact().with_span_events(FmtSpan::NEW | FmtSpan::CLOSE);
+    let (registry, mut drain) = Registry::builder().ring(65_536).layer(layer).build()?;
+    let span = registry.span(&info("request"), Parent::Root, &[])?;
+    let id = span.id().expect("the layer wants it");
+    let round = || -> Result<(), Error> {
+        registry.enter(id)?;
+        registry.exit(id)?;
+        drop(span.enter());
+        span.try_in_scope(|| ())
+    };
+    // Nobody reads, so nothing comes back that a batch might take.
+    round()?;
+    let before = TAKEN.get();
+    (0..ROUNDS).try_for_each(|_| round())?;
+    assert_eq!(TAKEN.get() - before, 0);
+    // Each call has its place in the ring.
+    assert_eq!(drain.lines().count(), 1);
+    assert_eq!(drain.counts().batches, 1 + 6 * (1 + ROUNDS));
     Ok(())
 }

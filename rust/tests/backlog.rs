@@ -3,6 +3,7 @@ mod common;
 
 use common::{assert_empty, compact, id, info, span, texts, Ids, LONG};
 use span_registry::{retry, Error, Layer, Parent, Registry, Targets};
+use std::sync::mpsc::channel;
 use std::thread;
 use std::time::Duration;
 
@@ -204,6 +205,32 @@ fn lines_of_a_round(round: usize, outer: &str, inner: &str) -> [String; 8] {
 
 fn id_of(line: &str) -> String {
     line.split(' ').nth(1).expect("an id").to_owned()
+}
+
+#[test]
+fn a_retry_that_goes_on_and_on_ends_once_the_drain_is_dropped() -> Result<(), Error> {
+    let (registry, drain) = compact().ring(1).build()?;
+    let ids = Ids(registry.clone());
+    ids.event("1")?;
+    let ((refused, is_refused), (done, is_done)) = (channel(), channel());
+    let caller = thread::spawn(move || {
+        let told = retry(|| {
+            let told = ids.event("2");
+            // Only the first one is waited for.
+            let _ = told.is_err().then(|| refused.send(()));
+            told
+        });
+        done.send(told).expect("the test waits");
+    });
+    let limit = Duration::from_secs(20);
+    is_refused.recv_timeout(limit).expect("the ring is full");
+    drop(drain);
+    let told = is_done.recv_timeout(limit);
+    assert_eq!(told.expect("it ends"), Ok(()));
+    caller.join().expect("no panic");
+    let (counts, lost) = (registry.counts(), registry.lost());
+    assert_eq!((counts.calls, lost.calls(), lost.lines()), (2, 0, 1));
+    Ok(())
 }
 
 #[test]

@@ -11,7 +11,7 @@ fn each_refusal_has_its_text_and_number() {
     let table = [
         (Error::Unknown, 1, "unknown: no open span has this id"),
         (Error::CountFull, 2, "count full: the span has max_count"),
-        (Error::Full, 3, "full: each slot has an open span; ask for more with"),
+        (Error::Full, 3, "full: each slot has an open span"),
         (Error::NotEntered, 4, "not entered: the thread isn't inside"),
         (Error::TooManyLayers, 5, "too many layers: at most 64"),
         (Error::bad_name("a b"), 6, "bad name: \"a b\" has over 64 bytes"),
@@ -40,6 +40,34 @@ fn each_refusal_has_its_text_and_number() {
         assert!(error.to_string().starts_with(text), "{error}");
         let passes = [Error::Backlog, Error::OutOfMemory].contains(&error);
         assert_eq!(error.may_pass(), passes, "{text}");
+    }
+}
+
+#[test]
+fn a_refusal_says_what_to_do() {
+    let table = [
+        (Error::Unknown, "; keep a handle as long as the id is used"),
+        (
+            Error::CountFull,
+            "; give some back, or ask for more with `RegistryBuilder::max_count`",
+        ),
+        (Error::Full, "; ask for more with `RegistryBuilder::slots`"),
+        (
+            Error::NotEntered,
+            "; leave it in the thread that entered it, once for each entry",
+        ),
+        (Error::bad_name("a b"), "; put the rest into a field's value"),
+        (
+            Error::Backlog,
+            "; read the drain, or choose with `RegistryBuilder::on_full`",
+        ),
+        (
+            Error::OutOfMemory,
+            "; make it again later, or ask for less with `RegistryBuilder::slots`",
+        ),
+    ];
+    for (error, remedy) in table {
+        assert!(error.to_string().ends_with(remedy), "{error}");
     }
 }
 

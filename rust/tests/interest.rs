@@ -115,8 +115,8 @@ fn enabled_is_what_the_registry_itself_does() -> Result<(), Error> {
             );
             let callsite = registry.callsite(&meta)?;
             assert_eq!(
-                registry.enabled_at(&callsite)?,
-                !made.is_disabled(),
+                [registry.enabled_at(&callsite)?, callsite.is_enabled()],
+                [!made.is_disabled(); 2],
                 "{targets} {level} {target:?}"
             );
             most = if made.is_disabled() { most } else { Some(level) };
@@ -138,6 +138,7 @@ fn a_callsite_is_asked_of_its_own_registry_and_without_a_layer_nothing_is_admitt
         (registry.enabled_at(&silent), other.enabled_at(&loud)),
         (Ok(false), Ok(true))
     );
+    assert_eq!((silent.is_enabled(), loud.is_enabled()), (false, true));
     assert_eq!(registry.enabled_at(&loud), Err(Error::OtherRegistry));
     Ok(())
 }

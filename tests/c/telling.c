@@ -282,14 +282,18 @@ static void check_counts(uint64_t batches, uint64_t missed_so_far) {
     CHECK(span_drain_counts(&drain, &taken, &missed) == SPAN_OK && taken == batches && missed == missed_so_far);
 }
 
-static void test_skip_batch(void) {
+static void open_both(void) {
     const SpanLimits limits = {16, 4294967295u, 4294967295u, 2, 64};
     const SpanLayer layers[] = {{0, SPAN_KINDS_ALL, 1}, {1, SPAN_KINDS_ALL, 1}};
     const SpanRule rules[] = {{0, 4}, {0, 4}};
+    CHECK(span_registry_new(&registry, &drain, &limits, layers, 2, rules, 2, (const uint8_t *)"", 0) == SPAN_OK);
+}
+
+static void test_skip_batch(void) {
     uint64_t id;
     uint32_t answer;
     check_skipped(SPAN_EMPTY_HANDLE, 99);
-    CHECK(span_registry_new(&registry, &drain, &limits, layers, 2, rules, 2, (const uint8_t *)"", 0) == SPAN_OK);
+    open_both();
     check_skipped(SPAN_NO_LINE, 99);
     id = make_span(0);
     CHECK(span_registry_enter(&registry, 1, id, &answer) == SPAN_OK);
@@ -307,16 +311,32 @@ static void test_skip_batch(void) {
     CHECK(span_registry_try_close(&registry, 0, id, &answer) == SPAN_OK && answer == 0);
     check_skipped(SPAN_NO_LINE, 99);
     check_counts(5, 0);
-    /* a line for which memory is refused is missed and not given up */
+    /* lines are written where those were that were given up */
     CHECK(span_registry_enter(&registry, 0, id, &answer) == SPAN_OK);
     CHECK(span_registry_exit(&registry, 0, id, &answer) == SPAN_OK);
-    allocations_left = 1;
-    check_skipped(SPAN_OK, 1);
+    allocations_left = 0;
+    check_skipped(SPAN_OK, 2);
     allocations_left = -1;
-    check_counts(6, 1);
+    check_counts(6, 0);
     check_line("exit 1 w0 a");
     close_both();
     check_skipped(SPAN_EMPTY_HANDLE, 99);
+}
+
+/* A line for which memory is refused is missed and not given up. */
+static void test_skip_missed(void) {
+    uint64_t id;
+    uint32_t answer;
+    open_both();
+    id = make_span(0);
+    /* the first line's text, and the list of the lines */
+    allocations_left = 2;
+    check_skipped(SPAN_OK, 1);
+    allocations_left = -1;
+    check_counts(1, 1);
+    CHECK(span_registry_enter(&registry, 0, id, &answer) == SPAN_OK);
+    check_line("enter 1 w0 a");
+    close_both();
 }
 
 static SpanMeta told_meta;
@@ -402,6 +422,7 @@ int main(void) {
     test_layers_of();
     test_follows_from();
     test_skip_batch();
+    test_skip_missed();
     test_details();
     printf("%d passed, %d failed\n", passed, failed);
     return failed == 0 ? EXIT_SUCCESS : EXIT_FAILURE;

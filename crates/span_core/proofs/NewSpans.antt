@@ -1,13 +1,11 @@
 -- A new span: its path and its notes, as they can be said before it is there.
-use Rattle.std.proofs.Common.{◌≡◌, ◌≢◌, ℕ, zero, suc, ◌<◌, Bool, true, false, cond, ◌&&◌, List, [], ◌∷◌, ◌++◌, length, map, filter, reverse, Option, Some, None, refl, sym, ap, ◌∙◌, subst, inl, inr, arith}
-use Rattle.std.specs.Prelude.{is_some, IfSome, All, slice_index, nat_lt}
-use Rattle.std.specs.Arc.{arc_str_bytes}
+use Rattle.std.proofs.Common.{◌≡◌, ◌≢◌, ℕ, zero, suc, ◌<◌, Bool, true, false, cond, ◌&&◌, List, [], ◌∷◌, ◌++◌, length, map, filter, reverse, Option, Some, None, refl, sym, ap, ◌∙◌, subst, inl, inr}
+use Rattle.std.specs.Prelude.{is_some, IfSome, slice_index, nat_lt}
 use Rattle.std.specs.Option.{option_map_or}
 use Rattle.std.specs.List.{range_with_len}
 use Rattle.std.proofs.lemmas.Bool.{cases_Bool, false≢true}
 use Rattle.std.proofs.lemmas.Bool.Decides.{eqb_tells}
-use Rattle.std.proofs.lemmas.List.{reverse-append, length-map, get_or-map}
-use Rattle.std.proofs.lemmas.List.Elements.{All-map, All-weaker, filter_passes}
+use Rattle.std.proofs.lemmas.List.{reverse-append}
 use Rattle.span_id.specs.Bits.{has_bit}
 use Rattle.span_id.specs.Id.{slot_of, generation_of, IsId}
 use Rattle.span_id.specs.declared.limits.Limits.{Limits}
@@ -15,8 +13,7 @@ use Rattle.span_slots.specs.Table.{IsIssued}
 use Rattle.span_layers.specs.declared.note.Kind.TheVariants.{OnNew}
 use Rattle.span_id.specs.Meta.{KeyValue, PlainMeta}
 use Rattle.span_id.specs.Ids.{has}
-use Rattle.span_layers.specs.declared.note.Note.{Note}
-use Rattle.span_layers.specs.Note.{PlainNote, plain_note}
+use Rattle.span_layers.specs.Note.{PlainNote}
 use Rattle.span_layers.specs.Filter.{Filter, layer_wants, admission_set}
 use Rattle.span_forest.specs.Node.{Node, new_node}
 use Rattle.span_forest.specs.Spans.{Spans, find, IsOpen, with_entry, parent_in, parent_of}
@@ -93,7 +90,7 @@ map-filter-same f g p q tests same (k ∷ ks) =
       | inr t ↦ (let u : q k ≡ false = sym (tests k) ∙ t in rw (t, u) rest)
     ]
 
-and_first : (a b : Bool) → (a && b) ≡ true → a ≡ true
+pub and_first : (a b : Bool) → (a && b) ≡ true → a ≡ true
 and_first true b h = refl
 and_first false b h = h
 
@@ -120,34 +117,6 @@ new_notes rules worker id spans new_spans node fields notes gone whole there are
         let p = ap path_text (sym (new_path spans id node k gone whole there admitted)) in
         λ j. record { layer = k; kind = OnNew; worker = worker; id = id; path = p j; fields = fields; event = None })
         (range_with_len 0 (length rules))
-
--- the path that each of them tells is what its layer reads at the span once it is there
-pub new_paths : (rules : List Filter) (worker id : ℕ) (spans new_spans : Spans) (node : Node) (fields : List KeyValue) (layers : List ℕ) (notes : List Note)
-    → find spans id ≡ None → ParentsOpen spans → is_open_parent spans node.parent ≡ true → new_spans ≡ with_entry spans id node
-    → map plain_note notes ≡ map (first_note spans worker id node.parent node.name fields) (filter (hears rules node.bits OnNew) layers)
-    → All (λ (note : Note). arc_str_bytes note.path ≡ path_text (path note.layer new_spans id)) notes
-new_paths rules worker id spans new_spans node fields layers notes gone whole there are told = each notes all
-  where
-    Reads : PlainNote → Type 0
-    Reads note = note.path ≡ path_text (path note.layer new_spans id)
-
-    test : ℕ → Bool
-    test = hears rules node.bits OnNew
-
-    first : ℕ → PlainNote
-    first = first_note spans worker id node.parent node.name fields
-
-    reads : (k : ℕ) → test k ≡ true → Reads (first k)
-    reads k heard =
-        ap path_text (sym (new_path spans id node k gone whole there (and_first (has_bit node.bits k) (layer_wants rules k OnNew) heard)))
-        ∙ ap (λ (s : Spans). path_text (path k s id)) (sym are)
-
-    all : All Reads (map plain_note notes)
-    all = subst (All Reads) (sym told)
-        (All-map Reads first (filter test layers) (All-weaker (λ k. test k ≡ true) (λ k. Reads (first k)) reads (filter test layers) (filter_passes test layers)))
-
-    each : (ns : List Note) → All Reads (map plain_note ns) → All (λ (note : Note). arc_str_bytes note.path ≡ path_text (path note.layer new_spans id)) ns
-    each ns are_read = λ k d low. subst Reads (get_or-map plain_note ns k d (plain_note d) low) (are_read k (plain_note d) (omega (arith, length-map ns plain_note, low)))
 
 -- an id of a slot that is free isn't open
 pub not_open : (spans : Spans) (id : ℕ) (Issued : Type 0) → (IsOpen spans id → Issued) → (Issued → ⊥) → find spans id ≡ None

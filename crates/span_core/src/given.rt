@@ -1,4 +1,4 @@
-//! What a caller gives to a call: lent, to be copied, or shared, to get one more owner.
+//! What a caller gives to a call: lent, to be copied, shared, to get one more owner, or given away.
 ghost use Rattle.std.specs.Prelude.{◌≡◌, IfOk, IfErr};
 ghost use Rattle.std.specs.Arc.{arc_str_bytes};
 ghost use Rattle.span_id.specs.Meta.{plain_meta, plain_fields};
@@ -18,11 +18,12 @@ pub(crate) enum GivenMeta<'a> {
     Shared(&'a SharedMeta),
 }
 
-/// Fields.
-#[derive(Clone, Copy)]
+/// Fields. Those that are given away are for a new span.
+#[derive(Drop)]
 pub(crate) enum GivenFields<'a> {
     Lent(&'a [Field]),
     Shared(&'a Fields),
+    Owned(Fields),
 }
 
 /// An event's message.
@@ -40,7 +41,7 @@ pub(crate) struct KeptEvent {
 }
 
 /// An event as a caller gives it, lent or shared, and the parent that it asks for.
-#[derive(Clone, Copy)]
+#[derive(Drop)]
 pub(crate) struct GivenEvent<'a> {
     pub(crate) meta: GivenMeta<'a>,
     pub(crate) message: GivenText<'a>,
@@ -74,24 +75,26 @@ impl<'a> GivenMeta<'a> {
 
 impl<'a> GivenFields<'a> {
     // The fields, to be read.
-    pub(crate) fn read(&self) -> &'a [Field]
+    pub(crate) fn read(&self) -> &[Field]
         ensures { plain_fields result.now ≡ fields_given self.now }
     {
         match self {
             GivenFields::Lent(fields) => fields,
             GivenFields::Shared(fields) => fields.as_slice(),
+            GivenFields::Owned(fields) => fields.as_slice(),
         }
     }
 
     // The fields, to be kept by a span: it alone has the list of a copy once its batch is told, so that it may append to
-    // it.
-    pub(crate) fn keep(&self, alloc: Global) -> Result<Fields, Fault>
-        ensures fields { IfOk result (λ kept. kept ≡ fields_given self.now) }
+    // it. What is given away it takes as it is.
+    pub(crate) fn keep(self, alloc: Global) -> Result<Fields, Fault>
+        ensures fields { IfOk result (λ kept. kept ≡ fields_given self.entry) }
         ensures memory { IfErr result (λ fault. fault ≡ Fault.Memory) }
     {
         match self {
             GivenFields::Lent(fields) => Fields::copy_of(alloc, fields),
             GivenFields::Shared(fields) => fields.share(),
+            GivenFields::Owned(fields) => Ok(fields),
         }
     }
 
@@ -104,6 +107,7 @@ impl<'a> GivenFields<'a> {
         match self {
             GivenFields::Lent(fields) => recent.copy_fields(fields),
             GivenFields::Shared(fields) => fields.share(),
+            GivenFields::Owned(fields) => fields.share(),
         }
     }
 }

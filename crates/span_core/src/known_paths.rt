@@ -236,20 +236,3 @@ fn in_either(one: Bits, other: Bits) -> Bits
 {
     Bits(one.0 | other.0)
 }
-
-// The set that this layer alone is in; from 64 on none is.
-pub(crate) fn only(layer: u32) -> Bits
-    ensures { (other : ℕ) → IsTrue (has_bit result.0 other) → other ≡ layer }
-{
-    with_layer(Bits(0), layer)
-}
-
-// The layers of a set, and this one.
-fn with_layer(set: Bits, layer: u32) -> Bits
-    ensures { (other : ℕ) → IsTrue (has_bit result.0 other) → IsTrue (has_bit set.0 other) ⊎ (other ≡ layer) }
-{
-    if layer >= 64 {
-        return set;
-    }
-    Bits(set.0 | 1 << layer)
-}

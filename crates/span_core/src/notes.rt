@@ -237,10 +237,31 @@ fn told_to_some(
     ensures remembers { Remembers forest.now recent.new.paths }
     ensures memory { IfErr result (λ fault. fault ≡ Fault.Memory) }
 {
+    let mut paths = SharedPaths::none(recent.alloc);
+    listed(recent, &mut paths, rules, forest, what)
+}
+
+// The same, and the paths that they tell are left in `paths`.
+fn listed(
+    recent: &mut Recent,
+    paths: &mut SharedPaths,
+    rules: &Rules,
+    forest: &Forest,
+    what: &Happening<'_>,
+) -> Result<Vec<Note>, Fault>
+    requires known { Knows (text_told what.now.subject) forest.now.spans paths.old }
+    requires remembers { Remembers forest.now recent.old.paths }
+    requires summarised { IsSummarised forest.now.spans what.now.subject }
+    requires there { IsThere forest.now.spans what.now.subject }
+    ensures notes { IfOk result (λ notes. map plain_note notes.items
+        ≡ notes_told rules.now forest.now.spans what.now) }
+    ensures known { OnOk result (Knows (text_told what.now.subject) forest.now.spans paths.new) }
+    ensures remembers { Remembers forest.now recent.new.paths }
+    ensures memory { IfErr result (λ fault. fault ≡ Fault.Memory) }
+{
     let layers = told_layers(rules, what.bits, what.kind);
     let mut notes = empty_list(recent.alloc, &mut recent.spare, layers.len());
-    let mut paths = SharedPaths::none(recent.alloc);
-    push_told(recent, &mut notes, &mut paths, rules, forest, what)?;
+    push_told(recent, &mut notes, paths, rules, forest, what)?;
     Ok(notes)
 }
 

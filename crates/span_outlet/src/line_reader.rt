@@ -11,7 +11,7 @@ ghost use Rattle.span_outlet.specs.inside.Reading.{reader_view, HaveNotes};
 
 use crate::given_out::GivenOut;
 use crate::line::Line;
-use crate::note_lines::NoteLines;
+use crate::note_lines::{NoteLines, keep_buffer};
 use crate::ring::{Consuming, Ring, Tap};
 use span_known::KnownValue;
 use span_layers::{Formatters, Formatting, Note, Say};
@@ -20,9 +20,9 @@ use std::marker::Model;
 
 /// Takes the batches out of a ring, and gives out the lines of their notes, each once and in order.
 ///
-/// It keeps no line that it gave out, which contracts alone know, and takes a batch only where no line waits. So it keeps
-/// at most the lines and the notes of one batch. It takes no lock, so it may run beside the core, in a thread of its own.
-/// Notes are missed as by a `Drain`. `V` makes the texts.
+/// It keeps no line that it gave out, which contracts alone know, and takes a batch only where no line waits. So it
+/// keeps at most the lines and the notes of one batch, and buffers of lines that it skipped or took back. It takes no
+/// lock, so it may run beside the core, in a thread of its own. Notes are missed as by a `Drain`. `V` makes the texts.
 #[derive(Drop)]
 pub struct LineReader<V = Formatters> {
     consumer: Consuming,
@@ -253,7 +253,16 @@ impl<V> LineReader<V> {
         Some(line)
     }
 
-    /// Gives all lines that wait out at once, and lets go of them. How many they were: they are of the last batch taken.
+    /// Takes a line back that was given out, whosever it is: a line to come that no closure writes is written in its
+    /// buffer, and then has more room than its text needs, up to 4,096 bytes. A larger buffer is freed, and one that
+    /// comes after 64 others.
+    pub fn take_back(&mut self, line: Line)
+        ensures { self.new ≡ self.old }
+    {
+        keep_buffer(&mut self.note_lines.spare, line);
+    }
+
+    /// Gives all lines that wait out at once, and takes them back. How many they were: they are of the last batch taken.
     pub fn skip(&mut self) -> usize
         ensures value { result ≡ length self.old.waiting }
         ensures given { self.new ≡ record self.old { given = self.old.given ++ self.old.waiting; waiting = [] } }
@@ -261,7 +270,9 @@ impl<V> LineReader<V> {
         ensures level { AreOfLast self.old }
     {
         let waited = self.note_lines.lines.len();
-        while let Some(_line) = self.next() {}
+        while let Some(line) = self.next() {
+            self.take_back(line);
+        }
         waited
     }
 

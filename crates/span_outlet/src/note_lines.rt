@@ -56,8 +56,8 @@ pub(crate) fn recycle(lines: &mut Vec<Line>, spare: &mut Vec<Vec<u8>>)
     lines.shrink_to(MOST_LINES);
 }
 
-// Keeps the buffer of a line's text, unless it is too large, or there are enough, or memory is refused.
-fn keep_buffer(spare: &mut Vec<Vec<u8>>, line: Line) {
+/// Keeps the buffer of a line's text, unless it is too large, or there are enough, or memory is refused.
+pub(crate) fn keep_buffer(spare: &mut Vec<Vec<u8>>, line: Line) {
     let Line {
         batch: _,
         place: _,

@@ -2,10 +2,12 @@
 ghost use Rattle.std.specs.Prelude.{◌≡◌};
 ghost use Rattle.span_outlet.specs.Batch.{plain_batch};
 ghost use Rattle.span_outlet.specs.KnownEvent.{batch_of_known};
+ghost use Rattle.span_outlet.specs.KnownSpan.{batch_of_known_span};
 ghost use Rattle.span_outlet.specs.Posted.{plain_posted};
 
 use crate::batch::{Batch, Call, Reply};
 use crate::known_event::KnownEvent;
+use crate::known_span::KnownSpan;
 use span_known::KnownValue;
 use span_layers::Note;
 
@@ -14,12 +16,13 @@ use span_layers::Note;
 pub(crate) enum Said {
     Call(KnownValue<Call>, KnownValue<Reply>),
     Event(KnownEvent),
+    Span(KnownSpan),
 }
 
 /// A batch of which the notes alone are kept. Its call and its reply are known to clauses.
 #[derive(Drop)]
 pub(crate) struct Posted {
-    pub(crate) said: Said,
+    pub(crate) said: KnownValue<Said>,
     pub(crate) notes: Vec<Note>,
 }
 
@@ -30,8 +33,9 @@ impl Posted {
         ensures { plain_posted result ≡ plain_batch batch }
     {
         let Batch { call, reply, notes } = batch;
+        let said = Said::Call(KnownValue::of(&call), KnownValue::of(&reply));
         Posted {
-            said: Said::Call(KnownValue::of(&call), KnownValue::of(&reply)),
+            said: KnownValue::of(&said),
             notes,
         }
     }
@@ -42,7 +46,18 @@ impl Posted {
         ensures { plain_posted result ≡ batch_of_known event notes.items }
     {
         Posted {
-            said: Said::Event(event),
+            said: KnownValue::of(&Said::Event(event)),
+            notes,
+        }
+    }
+
+    // The batch of a new span.
+    #[inline(always)]
+    pub(crate) fn of_span(span: KnownSpan, notes: Vec<Note>) -> Posted
+        ensures { plain_posted result ≡ batch_of_known_span span notes.items }
+    {
+        Posted {
+            said: KnownValue::of(&Said::Span(span)),
             notes,
         }
     }

@@ -3,12 +3,14 @@ ghost use Rattle.std.specs.Prelude.{◌≡◌, ◌+◌, ◌-◌, ◌^◌, ◌<�
 ghost use Rattle.rtrb.specs.Ring.{received, known_items, ConsumerLooked};
 ghost use Rattle.span_outlet.specs.Batch.{plain_batch};
 ghost use Rattle.span_outlet.specs.KnownEvent.{batch_of_known};
+ghost use Rattle.span_outlet.specs.KnownSpan.{batch_of_known_span};
 ghost use Rattle.span_outlet.specs.Outlet.{one_more};
 ghost use Rattle.span_outlet.specs.inside.Ends.{name_of_consumer};
 ghost use Rattle.span_outlet.specs.Posted.{plain_posted};
 
 use crate::batch::Batch;
 use crate::known_event::KnownEvent;
+use crate::known_span::KnownSpan;
 use crate::outlet::Outlet;
 use crate::posted::Posted;
 use rtrb::{Consumer, Producer, Protocol, RingBuffer};
@@ -182,6 +184,23 @@ impl Outlet for Ring {
     {
         self.ready = false;
         self.producer.push_reserved(Posted::of_event(event, notes));
+        Ok(())
+    }
+
+    /// The notes of the span take one of the free places.
+    #[inline(always)]
+    fn put_span(&mut self, span: KnownSpan, notes: Vec<Note>) -> Result<(), Vec<Note>>
+        requires ready { self.old.ready ≡ true }
+        requires countable { length self.old.sent < 2 ^ 64 - 1 }
+        ensures taken { IsOk result }
+        ensures sent { self.new.sent ≡ self.old.sent ++ batch_of_known_span span notes.items ∷ [] }
+        ensures free { self.new.free + 1 ≡ self.old.free }
+        ensures ready { self.new.ready ≡ false }
+        ensures name { self.new.name ≡ self.old.name }
+        ensures times_full { self.new.times_full ≡ self.old.times_full }
+    {
+        self.ready = false;
+        self.producer.push_reserved(Posted::of_span(span, notes));
         Ok(())
     }
 

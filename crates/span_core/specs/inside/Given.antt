@@ -1,4 +1,4 @@
--- What a caller gives to a call, lent or shared, for the functions inside this crate: no public clause cites it.
+-- What a caller gives to a call, lent, shared or given away, for the functions inside this crate: no public clause cites it.
 use Rattle.std.specs.Prelude.{◌≡◌, ℕ, List}
 use Rattle.std.specs.Arc.{arc_str_bytes}
 use Rattle.span_id.specs.Meta.{PlainMeta, KeyValue, plain_meta, plain_fields}
@@ -18,6 +18,7 @@ meta_given (meta.Shared shared) = shared.now
 abbrev pub fields_given : GivenFields → List KeyValue
 fields_given (fields.Lent lent) = plain_fields lent.now
 fields_given (fields.Shared shared) = shared.now
+fields_given (fields.Owned owned) = owned
 
 abbrev pub text_given : GivenText → List ℕ
 text_given (text.Lent lent) = lent.now

@@ -2,6 +2,7 @@
 -- cites it.
 use Rattle.std.specs.Prelude.{ℕ, List}
 use Rattle.span_forest.specs.Spans.{Spans}
+use Rattle.span_id.specs.Meta.{KeyValue}
 use Rattle.span_layers.specs.Note.{PlainNote}
 use Rattle.span_core.specs.declared.given.GivenEvent.{GivenEvent}
 use Rattle.span_core.specs.declared.notes.events.Event.{Event}
@@ -12,14 +13,14 @@ use Rattle.span_outlet.specs.Request.{Request, new_span, event}
 use Rattle.span_core.specs.Parent.{spans_around}
 use Rattle.span_core.specs.Happening.{Happening, event_at}
 
--- the call that makes a span
-abbrev pub span_request : NewSpan → Request
-span_request new = new_span new.worker (meta_given new.meta) (fields_given new.fields) new.parent
+-- the call that makes a span with these fields
+abbrev pub span_request : NewSpan → List KeyValue → Request
+span_request new fields = new_span new.worker (meta_given new.meta) fields new.parent
 
 -- what a layer is told of it, before it is there
-abbrev pub first_note_of : Spans → NewSpan → ℕ → PlainNote
-first_note_of spans new layer =
-    first_note spans new.worker new.id new.parent (meta_given new.meta).name (fields_given new.fields) layer
+abbrev pub first_note_of : Spans → NewSpan → List KeyValue → ℕ → PlainNote
+first_note_of spans new fields layer =
+    first_note spans new.worker new.id new.parent (meta_given new.meta).name fields layer
 
 -- the call that tells what this worker gave
 abbrev pub given_event : ℕ → GivenEvent → Request

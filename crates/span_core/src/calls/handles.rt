@@ -58,7 +58,7 @@ impl<O: Outlet, A> Core<O, A> {
         ensures refused { IfErr result (λ fault. IsRefused self.old
             (record_fields worker id (plain_fields fields.now)) fault self.new) }
     {
-        self.record_given(worker, id, &GivenFields::Lent(fields))
+        self.record_given(worker, id, GivenFields::Lent(fields))
     }
 
     /// Appends fields as `record` does, with the same refusals. The batch shares them with the caller, and so does a
@@ -69,16 +69,16 @@ impl<O: Outlet, A> Core<O, A> {
         ensures refused { IfErr result (λ fault. IsRefused self.old (record_fields worker id fields.now)
             fault self.new) }
     {
-        self.record_given(worker, id, &GivenFields::Shared(fields))
+        self.record_given(worker, id, GivenFields::Shared(fields))
     }
 
     // Appends fields that are lent or shared.
-    fn record_given(&mut self, worker: u32, id: Id, fields: &GivenFields<'_>) -> Result<(), Fault>
+    fn record_given(&mut self, worker: u32, id: Id, fields: GivenFields<'_>) -> Result<(), Fault>
         requires { worker < self.old.limits.workers }
-        ensures accepted { OnOk result (IsAccepted self.old (record_fields worker id (fields_given fields.now))
+        ensures accepted { OnOk result (IsAccepted self.old (record_fields worker id (fields_given fields.entry))
             recorded self.new) }
         ensures refused { IfErr result (λ fault. IsRefused self.old
-            (record_fields worker id (fields_given fields.now)) fault self.new) }
+            (record_fields worker id (fields_given fields.entry)) fault self.new) }
     {
         if !are_keys(fields.read()) {
             return Err(Fault::BadName);

@@ -1,40 +1,38 @@
 //! New spans.
-ghost use Rattle.std.specs.Prelude.{◌≡◌, ◌<◌, ◌↔◌, ◌⊎◌, ℕ, true, false, not, map, filter, length, IfOk, OnOk, IfErr, OnErr, IfSome, IfNone, OnSome, Some, None};
-ghost use Rattle.std.specs.List.{range_with_len};
-ghost use Rattle.span_layers.specs.declared.note.Kind.TheVariants.{OnNew};
+ghost use Rattle.std.specs.Prelude.{◌≡◌, ◌<◌, ◌-◌, ◌^◌, ◌↔◌, ◌⊎◌, ◌++◌, ◌∷◌, [], ℕ, true, false, not, map, length, IfOk, OnOk, IfErr, OnErr, IfSome, IfNone, OnSome, Some, None};
 ghost use Rattle.span_layers.specs.Filter.{admission_set};
 ghost use Rattle.span_layers.specs.Note.{plain_note};
 ghost use Rattle.span_slots.specs.Table.{IsIssued};
 ghost use Rattle.span_forest.specs.Add.{with_span};
 ghost use Rattle.span_forest.specs.Forest.{table_of, next_span_id};
 ghost use Rattle.span_forest.specs.Node.{new_node};
+ghost use Rattle.span_forest.specs.Path.{path_text};
 ghost use Rattle.span_id.specs.Id.{IsId};
 ghost use Rattle.span_id.specs.Meta.{plain_meta, plain_fields};
-ghost use Rattle.span_outlet.specs.Request.{request_of, new_span, made};
+ghost use Rattle.span_outlet.specs.Request.{new_span, made};
 ghost use Rattle.span_core.specs.Parent.{parent_found};
 ghost use Rattle.span_core.specs.Step.{is_open_parent};
 ghost use Rattle.span_core.specs.NextId.{next_id_after};
 ghost use Rattle.span_core.specs.inside.Given.{meta_given, fields_given};
-ghost use Rattle.span_core.specs.inside.Lent.{first_note_of, span_request};
-ghost use Rattle.span_core.specs.inside.Sound.{hears};
+ghost use Rattle.span_core.specs.inside.Lent.{span_request};
 ghost use Rattle.span_core.specs.Core.{is_parent_below_max, IsDue, IsAccepted, IsRefused, IsNotWanted};
 ghost use Rattle.span_core.specs.inside.Remembering.{Remembers};
+ghost use Rattle.span_core.specs.inside.Telling.{Knows};
 
 use crate::Core;
 use crate::calls::names::are_keys;
 use crate::calls::room::ask;
 use crate::given::{GivenFields, GivenMeta};
-use crate::notes::Announced;
-use crate::notes::new_spans::{NewSpan, new_told};
-use crate::notes::paths::remember_new;
+use crate::notes::new_spans::{NewSpan, new_notes};
+use crate::notes::paths::SharedPaths;
 use crate::recent::Recent;
 use span_forest::Forest;
 use span_forest::laws::{
     each_slot_has_one_open_id, next_id_is_new, open_spans_are_counted, walks_end,
 };
 use span_id::{Fault, Field, Fields, Id, Meta, SharedMeta};
-use span_layers::{Admit, Rules};
-use span_outlet::{Batch, Outlet, ParentOf, Reply};
+use span_layers::{Admit, Note};
+use span_outlet::{Batch, Call, KnownSpan, Outlet, ParentOf, Reply};
 
 impl<O: Outlet, A: Admit> Core<O, A> {
     // The parent that a caller means.
@@ -82,13 +80,13 @@ impl<O: Outlet, A: Admit> Core<O, A> {
         self.new_span_given(
             worker,
             &GivenMeta::Lent(meta),
-            &GivenFields::Lent(fields),
+            GivenFields::Lent(fields),
             parent,
         )
     }
 
-    /// Makes a span as `new_span` does, with the same answers and refusals. The span and the batch share the meta and
-    /// the fields with the caller: each has more owners, and nothing is copied.
+    /// Makes a span as `new_span` does, with the same answers and refusals. The span, and the batch where it is kept,
+    /// share the meta and the fields with the caller: each has more owners, and nothing is copied.
     pub fn new_span_shared(
         &mut self,
         worker: u32,
@@ -112,30 +110,60 @@ impl<O: Outlet, A: Admit> Core<O, A> {
         self.new_span_given(
             worker,
             &GivenMeta::Shared(meta),
-            &GivenFields::Shared(fields),
+            GivenFields::Shared(fields),
             parent,
         )
     }
 
-    // Makes a span of what is lent or shared.
-    fn new_span_given(
+    /// Makes a span as `new_span_shared` does, with the same answers and refusals, and takes the fields, which are dropped
+    /// where none is made.
+    pub fn new_span_owning(
         &mut self,
         worker: u32,
-        meta: &GivenMeta<'_>,
-        fields: &GivenFields<'_>,
+        meta: &SharedMeta,
+        fields: Fields,
         parent: ParentOf,
     ) -> Result<Option<Id>, Fault>
         requires { worker < self.old.limits.workers }
         ensures made { IfOk result (λ made_id. IfSome made_id (λ id.
-            IsAccepted self.old (new_span worker (meta_given meta.now) (fields_given fields.now)
+            IsAccepted self.old (new_span worker meta.now fields
             (parent_found self.old.world worker parent)) (made id) self.new)) }
         ensures next { IfOk result (λ made_id. IfSome made_id (λ id.
             next_id_after self.old.limits.slots self.old.limits.last_generation self.old.sent ≡ Some id)) }
         ensures not_wanted { IfOk result (λ made_id. IfNone made_id (
-            IsNotWanted self.old (new_span worker (meta_given meta.now) (fields_given fields.now)
+            IsNotWanted self.old (new_span worker meta.now fields
             (parent_found self.old.world worker parent)) self.new)) }
         ensures refused { IfErr result (λ fault.
-            IsRefused self.old (new_span worker (meta_given meta.now) (fields_given fields.now)
+            IsRefused self.old (new_span worker meta.now fields
+            (parent_found self.old.world worker parent)) fault self.new) }
+    {
+        self.new_span_given(
+            worker,
+            &GivenMeta::Shared(meta),
+            GivenFields::Owned(fields),
+            parent,
+        )
+    }
+
+    // Makes a span of what is given.
+    fn new_span_given(
+        &mut self,
+        worker: u32,
+        meta: &GivenMeta<'_>,
+        fields: GivenFields<'_>,
+        parent: ParentOf,
+    ) -> Result<Option<Id>, Fault>
+        requires { worker < self.old.limits.workers }
+        ensures made { IfOk result (λ made_id. IfSome made_id (λ id.
+            IsAccepted self.old (new_span worker (meta_given meta.now) (fields_given fields.entry)
+            (parent_found self.old.world worker parent)) (made id) self.new)) }
+        ensures next { IfOk result (λ made_id. IfSome made_id (λ id.
+            next_id_after self.old.limits.slots self.old.limits.last_generation self.old.sent ≡ Some id)) }
+        ensures not_wanted { IfOk result (λ made_id. IfNone made_id (
+            IsNotWanted self.old (new_span worker (meta_given meta.now) (fields_given fields.entry)
+            (parent_found self.old.world worker parent)) self.new)) }
+        ensures refused { IfErr result (λ fault.
+            IsRefused self.old (new_span worker (meta_given meta.now) (fields_given fields.entry)
             (parent_found self.old.world worker parent)) fault self.new) }
     {
         if !(meta.read().fit() && are_keys(fields.read())) {
@@ -155,74 +183,120 @@ impl<O: Outlet, A: Admit> Core<O, A> {
         let Some(id) = self.forest.next_id() else {
             return Err(Fault::Full);
         };
-        self.make(&NewSpan {
+        let new = NewSpan {
             worker,
             id,
             bits,
             parent,
             meta: *meta,
-            fields: *fields,
-        })?;
+        };
+        self.make(&new, fields)?;
         Ok(Some(id))
     }
 
     // Makes a span that nothing but the outlet or memory can stand against.
-    fn make(&mut self, new: &NewSpan<'_>) -> Result<(), Fault>
+    fn make(&mut self, new: &NewSpan<'_>, fields: GivenFields<'_>) -> Result<(), Fault>
         requires within { new.now.worker < self.old.limits.workers }
-        requires due { IsDue self.old (span_request new.now) }
+        requires due { IsDue self.old (span_request new.now (fields_given fields)) }
         requires bits { new.now.bits.0 ≡ admission_set self.old.rules (meta_given new.now.meta).target
             (meta_given new.now.meta).level }
-        requires next { next_id_after self.old.limits.slots self.old.limits.last_generation self.old.sent ≡ Some new.now.id }
-        ensures made { OnOk result (IsAccepted self.old (span_request new.now) (made new.now.id) self.new) }
-        ensures refused { IfErr result (λ fault. IsRefused self.old (span_request new.now) fault self.new) }
+        requires next { next_id_after self.old.limits.slots self.old.limits.last_generation self.old.sent
+            ≡ Some new.now.id }
+        ensures made { OnOk result
+            (IsAccepted self.old (span_request new.now (fields_given fields.entry)) (made new.now.id) self.new) }
+        ensures refused { IfErr result (λ fault.
+            IsRefused self.old (span_request new.now (fields_given fields.entry)) fault self.new) }
     {
         ask(&mut self.outlet, &mut self.recent.spare)?;
         next_id_is_new(&self.forest);
         each_slot_has_one_open_id(&self.forest);
         open_spans_are_counted(&self.forest);
-        let Announced { call, notes } = add_span(
+        let meta = new.meta.keep(&mut self.recent.metas)?;
+        let fields = fields.keep(self.recent.alloc)?;
+        let mut paths = SharedPaths::none(self.recent.alloc);
+        let notes = new_notes(
             &mut self.recent,
             &self.rules,
-            &mut self.forest,
+            &self.forest,
             new,
+            &fields,
+            &mut paths,
         )?;
+        put_new(&mut self.outlet, new, &meta, &fields, notes)?;
         self.calls += 1;
         self.made += 1;
-        self.outlet.put(Batch {
-            call,
-            reply: Reply::Made(new.id),
-            notes,
-        });
+        add_span(&mut self.recent, &mut self.forest, new, meta, fields, paths);
         Ok(())
     }
 }
 
-// Adds a span to the forest, once its call and its notes are made. The forest stays as it is where memory is refused.
+// Sends the batch of a new span: its notes alone, or the call too where the outlet gives them back.
+fn put_new<O: Outlet>(
+    outlet: &mut O,
+    new: &NewSpan<'_>,
+    meta: &SharedMeta,
+    fields: &Fields,
+    notes: Vec<Note>,
+) -> Result<(), Fault>
+    requires ready { O.ready outlet.old ≡ true }
+    requires countable { length (O.sent outlet.old) < 2 ^ 64 - 1 }
+    requires meta { meta.now ≡ meta_given new.now.meta }
+    ensures sent { OnOk result (O.sent outlet.new ≡ O.sent outlet.old ++ (record {
+      request = span_request new.now fields.now;
+      answer = made new.now.id;
+      notes = map plain_note notes.items;
+    }) ∷ []) }
+    ensures unsent { OnErr result (O.sent outlet.new ≡ O.sent outlet.old) }
+    ensures forms { O.forms outlet.new ≡ O.forms outlet.old }
+    ensures name { O.name outlet.new ≡ O.name outlet.old }
+    ensures times_full { O.times_full outlet.new ≡ O.times_full outlet.old }
+    ensures memory { IfErr result (λ fault. fault ≡ Fault.Memory) }
+{
+    let known = KnownSpan::new(
+        new.worker,
+        new.id,
+        meta.as_meta(),
+        fields.as_slice(),
+        new.parent,
+    );
+    if let Err(notes) = outlet.put_span(known, notes) {
+        let call = Call::NewSpan {
+            worker: new.worker,
+            meta: meta.share()?,
+            fields: fields.share()?,
+            parent: new.parent,
+        };
+        outlet.put(Batch {
+            call,
+            reply: Reply::Made(new.id),
+            notes,
+        });
+    }
+    Ok(())
+}
+
+// Adds a span to the forest, whose batch is sent: that takes no memory. What is remembered of it may ask for some, and
+// isn't where it is refused.
 fn add_span(
     recent: &mut Recent,
-    rules: &Rules,
     forest: &mut Forest,
     new: &NewSpan<'_>,
-) -> Result<Announced, Fault>
+    meta: SharedMeta,
+    fields: Fields,
+    paths: SharedPaths,
+)
     requires open { is_open_parent forest.old.spans new.now.parent ≡ true }
     requires count { is_parent_below_max forest.old.max_count forest.old.spans new.now.parent ≡ true }
     requires next { next_span_id forest.old ≡ Some new.now.id }
+    requires meta { meta ≡ meta_given new.now.meta }
+    requires paths { Knows (λ path. path_text (path ++ (meta_given new.now.meta).name ∷ [])) forest.old.spans paths }
     requires remembers { Remembers forest.old recent.old.paths }
-    ensures forest { OnOk result (forest.new ≡ with_span forest.old new.now.id
-        (new_node (meta_given new.now.meta) (fields_given new.now.fields) new.now.parent new.now.bits.0)) }
-    ensures call { IfOk result (λ told. request_of told.call ≡ span_request new.now) }
-    ensures notes { IfOk result (λ told. map plain_note told.notes.items
-        ≡ map (first_note_of forest.old.spans new.now)
-        (filter (hears rules.now new.now.bits.0 OnNew) (range_with_len 0 (length rules.now)))) }
-    ensures issued { OnOk result ((other : ℕ) → IsId other →
-        (IsIssued (table_of forest.new) other ↔ (IsIssued (table_of forest.old) other ⊎ (new.now.id ≡ other)))) }
-    ensures unchanged { OnErr result (forest.new ≡ forest.old) }
+    ensures forest { forest.new ≡ with_span forest.old new.now.id
+        (new_node (meta_given new.now.meta) fields new.now.parent new.now.bits.0) }
+    ensures issued { (other : ℕ) → IsId other →
+        (IsIssued (table_of forest.new) other ↔ (IsIssued (table_of forest.old) other ⊎ (new.now.id ≡ other))) }
     ensures remembers { Remembers forest.new recent.new.paths }
-    ensures memory { IfErr result (λ fault. fault ≡ Fault.Memory) }
 {
-    let meta = new.meta.keep(&mut recent.metas)?;
-    let fields = new.fields.keep(recent.alloc)?;
-    let told = new_told(recent, rules, forest, new, &meta, &fields)?;
     next_id_is_new(forest);
     open_spans_are_counted(forest);
     walks_end(forest);
@@ -230,8 +304,7 @@ fn add_span(
         unreachable!();
     };
     walks_end(forest);
-    remember_new(recent, forest, new.id, told.notes.as_slice());
-    Ok(told)
+    paths.remember_new(&mut recent.paths, &new.parent, new.bits, new.id);
 }
 
 // Whether the count of a parent is at its greatest; none where the parent isn't open.

@@ -1,19 +1,19 @@
 //! The texts of the paths that a call tells its layers, each made once and shared by all that see it.
-ghost use Rattle.std.specs.Prelude.{◌≡◌, ◌++◌, ◌∷◌, [], ℕ, List, Some, string_bytes, IsTrue, IfOk, IfErr, OnOk, IfSome, All};
+ghost use Rattle.std.specs.Prelude.{◌≡◌, ◌++◌, ◌∷◌, [], ℕ, List, Some, true, string_bytes, IsTrue, IfOk, IfErr, OnOk, IfSome};
 ghost use Rattle.std.specs.Arc.{arc_str_bytes};
 ghost use Rattle.span_id.specs.Bits.{has_bit};
 ghost use Rattle.span_forest.specs.Spans.{Spans, IsOpen};
+ghost use Rattle.span_forest.specs.Forest.{ForestView};
 ghost use Rattle.span_forest.specs.Path.{path, path_text};
 ghost use Rattle.span_core.specs.Happening.{path_at};
 ghost use Rattle.span_core.specs.inside.Telling.{IsAt, Knows, KnowsPath};
-ghost use Rattle.span_core.specs.inside.Remembering.{Remembers};
+ghost use Rattle.span_core.specs.inside.Remembering.{ReadsOn, Remembers};
 
-use crate::known_paths::{KnownPaths, only};
+use crate::known_paths::KnownPaths;
 use crate::recent::Recent;
 use span_forest::laws::each_slot_has_one_open_id;
 use span_forest::{Forest, PathText, Span};
 use span_id::{Bits, Fault, Id, copy_text};
-use span_layers::Note;
 use std::alloc::Global;
 use std::sync::ArcStr;
 
@@ -55,6 +55,24 @@ impl SharedPath {
         } else {
             None
         }
+    }
+
+    // Remembers the text for the layers that see it, of those that admit a new span, if it was told at the span's parent.
+    fn remember_new(&self, known: &mut KnownPaths, parent: &Option<Id>, bits: Bits, id: Id)
+        ensures { (told : List (List ℕ) → List ℕ) (before : Spans) (forest : ForestView) →
+            ReadsOn told before parent.now bits forest id → KnowsPath told before self.now →
+            Remembers forest known.old → Remembers forest known.new }
+    {
+        if self.stands_at(parent) {
+            known.keep(self.same.and(bits), id, &self.text);
+        }
+    }
+
+    // Whether it was read at this place: those of a new span were, at its parent.
+    fn stands_at(&self, place: &Option<Id>) -> bool
+        ensures { result ≡ true → self.now.place ≡ place.now }
+    {
+        self.place == *place
     }
 }
 
@@ -108,6 +126,27 @@ impl SharedPaths {
             }
         }
         None
+    }
+
+    // Remembers the paths that layers were told of a new span, where notes may share them: each layer that admits it reads
+    // its own there from now on.
+    pub(crate) fn remember_new(
+        self,
+        known: &mut KnownPaths,
+        parent: &Option<Id>,
+        bits: Bits,
+        id: Id,
+    )
+        ensures { (told : List (List ℕ) → List ℕ) (before : Spans) (forest : ForestView) →
+            ReadsOn told before parent.now bits forest id → Knows told before self →
+            Remembers forest known.old → Remembers forest known.new }
+    {
+        if let Some(first) = &self.first {
+            first.remember_new(known, parent, bits, id);
+        }
+        for path in &self.further {
+            path.remember_new(known, parent, bits, id);
+        }
     }
 
     // One more.
@@ -258,23 +297,6 @@ fn remember(
     each_slot_has_one_open_id(forest);
     if let Some(id) = place {
         known.keep(layers, *id, text);
-    }
-}
-
-// Remembers the paths that layers were told of a new span, where notes may share them: each layer reads its own there
-// from now on.
-pub(crate) fn remember_new(recent: &mut Recent, forest: &Forest, id: Id, notes: &[Note])
-    requires open { IsOpen forest.now.spans id }
-    requires told { All (λ note. arc_str_bytes note.path ≡ path_text (path note.layer forest.now.spans id)) notes.now }
-    requires remembers { Remembers forest.now recent.old.paths }
-    ensures remembers { Remembers forest.now recent.new.paths }
-{
-    if !recent.paths.shares {
-        return;
-    }
-    each_slot_has_one_open_id(forest);
-    for note in notes {
-        recent.paths.keep(only(note.layer), id, &note.path);
     }
 }
 

@@ -17,7 +17,7 @@ use std::process::Abort;
 use std::sync::ArcStr;
 
 const LIMITS: Limits = Limits {
-    slots: 2,
+    slots: 3,
     last_generation: 0,
     max_count: 1,
     workers: 1,
@@ -35,8 +35,9 @@ struct Texts {
 // The calls that share.
 #[derive(Clone, Copy)]
 enum Way {
-    // A new root with the fields, and one without.
+    // A new root with the fields, one that takes them, and one without.
     New,
+    NewOwning,
     NewBare,
     Record(u64),
     Event,
@@ -60,6 +61,10 @@ fn share<V: Say>(rt: &impl Abort, core: &mut Core<Kept<V>>, way: Way, texts: &Te
     let (meta, fields) = (&texts.meta, &texts.fields);
     match way {
         Way::New => made(core.new_span_shared(0, meta, fields, ParentOf::Root)),
+        Way::NewOwning => {
+            let fields = fields.share().expect(rt, "memory");
+            made(core.new_span_owning(0, meta, fields, ParentOf::Root))
+        }
         Way::NewBare => made(core.new_span_shared(0, meta, &Fields::none(), ParentOf::Root)),
         Way::Record(number) => {
             let recorded = core.record_shared(0, id(rt, number), fields);
@@ -87,9 +92,10 @@ fn share_in_turn<V: Say>(
     }
 }
 
-// Each of the calls refuses a key that is no name. Then come two spans of one meta, and records and an event of the same
-// fields.
+// Each of the calls refuses a key that is no name. Then come three spans of one meta, and records and an event of the
+// same fields.
 const TOLD: &str = "\
+! bad name
 ! bad name
 ! bad name
 ! bad name
@@ -97,6 +103,8 @@ L0 new 1 w0 a k=1
 = 1
 L0 new 2 w0 a
 = 2
+L0 new 3 w0 a k=1
+= 3
 L0 record 1 w0 a k=1
 = recorded
 L0 record 2 w0 a k=1
@@ -109,20 +117,27 @@ L0 close 1 w0 a k=1 k=1
 = closed
 L0 close 2 w0 a k=1 k=1
 = closed
+L0 close 3 w0 a k=1
+= closed
 ";
 
-static BAD_WAYS: [Way; 3] = [Way::New, Way::Record(1), Way::Event];
+static BAD_WAYS: [Way; 4] = [Way::New, Way::NewOwning, Way::Record(1), Way::Event];
 
-static GOOD_WAYS: [Way; 6] = [
+static GOOD_WAYS: [Way; 7] = [
     Way::New,
     Way::NewBare,
+    Way::NewOwning,
     Way::Record(1),
     Way::Record(2),
     Way::Record(2),
     Way::Event,
 ];
 
-static CLOSES: [(u32, Act<'static>); 2] = [(0, Act::Close(1)), (0, Act::Close(2))];
+static CLOSES: [(u32, Act<'static>); 3] = [
+    (0, Act::Close(1)),
+    (0, Act::Close(2)),
+    (0, Act::Close(3)),
+];
 
 fn tell<V: Say>(
     rt: &impl Abort,

@@ -35,7 +35,9 @@ fn give_first(lines: &mut Lines, layer: &mut u32, into: &mut [u8], len: &mut usi
     let status = write_all(line.text.as_slice(), into, len);
     if status == Status::Done {
         *layer = line.layer;
-        lines.next();
+        if let Some(line) = lines.next() {
+            lines.take_back(line);
+        }
     }
     status
 }

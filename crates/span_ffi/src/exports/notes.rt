@@ -124,7 +124,9 @@ fn give_first_note(
     };
     let status = tell_note(line.batch, note, told, fields, count, into, len);
     if status == Status::Done {
-        lines.next();
+        if let Some(line) = lines.next() {
+            lines.take_back(line);
+        }
     }
     status
 }

@@ -43,15 +43,15 @@ fn new_span(
     worker: u32,
     parent: ParentOf,
     meta: &SharedMeta,
-    fields: &Fields,
+    fields: Fields,
     id: &mut u64,
 ) -> Status
     requires { worker < core.old.limits.workers }
-    ensures made { IsMadeOrRefused (new_span worker meta.now fields.now
+    ensures made { IsMadeOrRefused (new_span worker meta.now fields
         (parent_found core.old.world worker parent)) id.new core.old result core.new }
     ensures kept { Keeps (Some result) id.old id.new }
 {
-    match core.new_span_shared(worker, meta, fields, parent) {
+    match core.new_span_owning(worker, meta, fields, parent) {
         Ok(Some(made)) => {
             *id = made.get();
             Status::Done
@@ -92,7 +92,7 @@ fn make_span(
         return Status::BadData;
     };
     match read_span(alloc, meta, fields, texts) {
-        Some((meta, fields)) => new_span(core, worker, parent, &meta, &fields, id),
+        Some((meta, fields)) => new_span(core, worker, parent, &meta, fields, id),
         None => unread(is_span(meta, fields, texts)),
     }
 }
@@ -172,7 +172,7 @@ fn make_span_at(
         return Status::BadData;
     };
     match read_fields(alloc, fields, texts) {
-        Some(fields) => new_span(core, worker, parent, meta, &fields, id),
+        Some(fields) => new_span(core, worker, parent, meta, fields, id),
         None => unread(are_fields(fields, texts)),
     }
 }

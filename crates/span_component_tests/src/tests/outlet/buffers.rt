@@ -1,11 +1,14 @@
-//! What a `Latest` keeps for batches to come, and how much room it leaves: as much as its page says.
+//! What an outlet and a reader keep for lines to come, and how much room they leave: as much as their pages say.
 ghost use Rattle.std.specs.Prelude.{◌≡◌, ◌+◌, ◌-◌, ◌^◌, ◌<◌, ◌≤◌, [], length};
 
 use crate::tests::compare::{holds, same};
-use crate::tests::outlet::batches::{FORMS, batch_of, formatting, send};
+use crate::tests::outlet::batches::{FORMS, batch_of, formatting, pair, send};
 use span_id::{Fields, Level};
-use span_layers::{Form, Kind, Note, Say, text};
-use span_outlet::{Latest, Line, Outlet};
+use span_layers::{
+    ByForm, ByRule, FmtSpan, Form, Formatting, Hooks, Kind, Layer, Layers, Note, Rule, Say, Style,
+    text,
+};
+use span_outlet::{Latest, Line, LineReader, Outlet};
 use std::alloc::{AllocError, Global};
 use std::process::Abort;
 use std::sync::ArcStr;
@@ -157,6 +160,51 @@ fn buffers_are_used_again(rt: HostRuntime) {
     for case in &COPIES {
         are_kept(&rt, rt.alloc(), case, true);
     }
+}
+
+// The formatting of a layer that has no closures and writes JSON.
+fn plain_formatting(rt: &impl Abort, alloc: Global) -> Formatting<ByForm> {
+    let mut layers = Layers::<ByRule, ByForm>::new(alloc);
+    let style = Style {
+        form: Form::Json,
+        spans: FmtSpan::FULL,
+    };
+    let layer = Layer {
+        style,
+        rule: Rule::everything(alloc).expect(rt, "memory"),
+        hooks: Hooks::by_rule_and_form(),
+    };
+    holds(rt, layers.add(layer).is_ok(), "a layer");
+    layers.split().1
+}
+
+// How much room the text of the line has that is read. The line is given back, or not.
+fn read<V: Say>(rt: &impl Abort, reader: &mut LineReader<V>, is_given_back: bool) -> usize {
+    holds(rt, reader.fill(), "a line waits");
+    let line = reader.next().expect(rt, "a line");
+    let room = line.text.capacity();
+    if is_given_back {
+        reader.take_back(line);
+    }
+    room
+}
+
+// Whether the second of two lines that are read, the first one of so many bytes, has the room of the first.
+fn has_its_room(rt: &impl Abort, alloc: Global, bytes: usize, is_given_back: bool, want: bool) {
+    let (mut ring, tap) = pair(rt, alloc, 1);
+    let mut reader = LineReader::new(alloc, tap, plain_formatting(rt, alloc));
+    send_texts(rt, alloc, &mut ring, &[bytes]);
+    let first = read(rt, &mut reader, is_given_back);
+    send_texts(rt, alloc, &mut ring, SHORT);
+    let second = read(rt, &mut reader, false);
+    same(rt, first == second, want, bytes);
+}
+
+#[test]
+fn a_line_given_back_is_written_anew(rt: HostRuntime) {
+    has_its_room(&rt, rt.alloc(), 1000, true, true);
+    has_its_room(&rt, rt.alloc(), 1000, false, false);
+    has_its_room(&rt, rt.alloc(), MOST + 1, true, false);
 }
 
 // Sends a batch of one note, in a list with room for so many.

@@ -32,11 +32,11 @@ within g c = omega (arith, c.requires, ap (λ (v : CoreView). v.limits.workers) 
 held : (g : given.Over) (c : After-put g) → IsHeld c.self.inside.forest.spans c.args.id Handle
 held g c = c.in-Some.ensures.held
 
-named : (g : given.Over) (c : After-put g) → are_keys (fields_given c.args.fields.now) ≡ true
+named : (g : given.Over) (c : After-put g) → are_keys (fields_given c.args.fields) ≡ true
 named g c = subst (λ (fields : List KeyValue). are_keys fields ≡ true) c.read.ensures (sym c.are_keys.ensures ∙ c.if-not-are_keys.false)
 
-due : (g : given.Over) (c : After-put g) → IsDue c.args.self.now (record_fields c.args.worker c.args.id (fields_given c.args.fields.now))
-due g c = due_from c.args.self.now (record_fields c.args.worker c.args.id (fields_given c.args.fields.now)) (record {
+due : (g : given.Over) (c : After-put g) → IsDue c.args.self.now (record_fields c.args.worker c.args.id (fields_given c.args.fields))
+due g c = due_from c.args.self.now (record_fields c.args.worker c.args.id (fields_given c.args.fields)) (record {
   named = named g c;
   wanted = refl;
   known = subst (λ (v : CoreView). has_handle v.world.spans c.args.id ≡ true) c.self.view_is c.in-Some.ensures.known;
@@ -46,24 +46,24 @@ due g c = due_from c.args.self.now (record_fields c.args.worker c.args.id (field
 })
 
 told : (g : given.Over) (c : After-put g) → map plain_note c.in_ok-recorded.recorded.notes.items
-    ≡ notes_of_all c.self.inside.rules c.args.worker (at_span c.self.inside.forest.spans OnRecord c.args.id (fields_given c.args.fields.now) ∷ [])
+    ≡ notes_of_all c.self.inside.rules c.args.worker (at_span c.self.inside.forest.spans OnRecord c.args.id (fields_given c.args.fields) ∷ [])
 told g c =
-    one_happening c.self.inside.rules c.args.worker (at_span c.self.inside.forest.spans OnRecord c.args.id (fields_given c.args.fields.now)) [] _ refl
+    one_happening c.self.inside.rules c.args.worker (at_span c.self.inside.forest.spans OnRecord c.args.id (fields_given c.args.fields)) [] _ refl
     (c.in_ok-recorded.ensures.notes
     ∙ ap (λ fields. notes_of c.self.inside.rules c.args.worker (at_span c.self.inside.forest.spans OnRecord c.args.id fields)) c.in_ok-kept.ensures.fields)
 
 -- the forest has the caller's fields
 forest_is : (g : given.Over) (c : After-put g) → c.append_fields.new.forest
-    ≡ record c.self.inside.forest { spans = with_change (with_fields (fields_given c.args.fields.now)) c.self.inside.forest.spans c.args.id }
+    ≡ record c.self.inside.forest { spans = with_change (with_fields (fields_given c.args.fields)) c.self.inside.forest.spans c.args.id }
 forest_is g c =
     c.in_ok-append_fields.ensures.forest
     ∙ ap (λ fields. record c.self.inside.forest { spans = with_change (with_fields fields) c.self.inside.forest.spans c.args.id }) c.in_ok-kept.ensures.fields
 
 call : (g : given.Over) (c : After-put g) → IsOneMore c.self.inside.rules (g.O.Outlet.sent c.self.inside.outlet) (record { spans = c.self.inside.forest.spans; stacks = ids_of_each c.self.inside.stacks.items })
-    (record { request = record_fields c.args.worker c.args.id (fields_given c.args.fields.now); answer = recorded; notes = map plain_note c.in_ok-recorded.recorded.notes.items })
+    (record { request = record_fields c.args.worker c.args.id (fields_given c.args.fields); answer = recorded; notes = map plain_note c.in_ok-recorded.recorded.notes.items })
     (record { spans = c.append_fields.new.forest.spans; stacks = ids_of_each c.self.inside.stacks.items }) (g.O.Outlet.sent c.put.new.self)
 call g c = record {
-  step = step_record _ _ _ _ _ c.args.worker c.args.id (fields_given c.args.fields.now) _ (within g c) (held g c) (ap (λ f. f.spans) (forest_is g c)) (told g c);
+  step = step_record _ _ _ _ _ c.args.worker c.args.id (fields_given c.args.fields) _ (within g c) (held g c) (ap (λ f. f.spans) (forest_is g c)) (told g c);
   sent = c.put.ensures.sent ∙ (λ j. c.in_ok-ask.ensures.sent j ++ (record { request = (c.in_ok-recorded.ensures.call ∙ ap (λ fields. record_fields c.args.worker c.args.id fields) c.in_ok-kept.ensures.fields) j; answer = recorded; notes = map plain_note c.in_ok-recorded.recorded.notes.items }) ∷ []);
 }
 
@@ -72,8 +72,8 @@ invariant_of-self-2 g joined =
     let c = (goal.at.invariant_of-self-2 g joined).After-put in (
       sound_kept _ _ _ _ _ _ _ _ _ _ _ [] c.self.invariant.0 (call g c) refl refl (forest_is g c),
       none_made _ _ _ _ c.self.invariant.1 refl (call g c).sent,
-      remembers_changed _ _ _ c.args.id _ (more_fields (fields_given c.args.fields.now)) (forest_is g c) c.in_ok-recorded.ensures.remembers,
-      summary_changed _ _ _ _ _ c.args.id (more_fields (fields_given c.args.fields.now)) (ap (λ f. f.spans) (forest_is g c)) c.self.invariant.3,
+      remembers_changed _ _ _ c.args.id _ (more_fields (fields_given c.args.fields)) (forest_is g c) c.in_ok-recorded.ensures.remembers,
+      summary_changed _ _ _ _ _ c.args.id (more_fields (fields_given c.args.fields)) (ap (λ f. f.spans) (forest_is g c)) c.self.invariant.3,
     )
 
 pub returns-clause-accepted : goal.returns-clause-accepted

@@ -1,5 +1,5 @@
 use Rattle.span_core.specs.inside.Telling.{text_told}
 use Rattle.span_core.proofs.notes.told_to_some.Goals as goal
 
-pub push_told-requires-clause-known : goal.push_told-requires-clause-known
-push_told-requires-clause-known c = c.none-paths.ensures (text_told c.args.what.now.subject) c.args.forest.now.spans
+pub listed-requires-clause-known : goal.listed-requires-clause-known
+listed-requires-clause-known c = c.none-paths.ensures (text_told c.args.what.now.subject) c.args.forest.now.spans
