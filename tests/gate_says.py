@@ -4,8 +4,9 @@
 usage: gate_says.py FILE
 
 How many functions of a crate may wait for a lock, as the checker counted them, is what crates.txt says; a crate whose
-proof rt ci kept is named as not compared. And each edit of must-fail/ could be made: one that can't counts for nothing
-in rt ci. The last line is 'N passed, M failed'.
+proof rt ci kept is named as not compared. Where it is not proved, what rt ci said against it stands below: its first
+errors, the functions and what rt ended with. And each edit of must-fail/ could be made: one that can't counts for
+nothing in rt ci. The last line is 'N passed, M failed'.
 """
 import re
 import sys
@@ -13,7 +14,15 @@ from pathlib import Path
 
 TOP = Path(__file__).resolve().parent.parent
 PROVED = re.compile(r"^logic=(?:.* may-wait=(\d+))?.*\n(?:(?!logic=).*\n)*?rt: (\w+) proved$", re.M)
+SECTION = re.compile(r"^== (\w+)\n((?:(?!== ).*\n)*)", re.M)
+AGAINST = re.compile(r"^.*(?:: error: |: not proved|warning: |^rt: ).*$", re.M)
 LISTED = re.compile(r"^(\w+)(?:[^:#\n]* may_wait=(\d+))?[^:#\n]*:", re.M)
+
+
+def against(said, name):
+    """What rt ci said against a crate, a line each, cut at 300 characters: the first fifteen, and the last five."""
+    lines = [it[:300] for crate, text in SECTION.findall(said) if crate == name for it in AGAINST.findall(text)]
+    return "".join(f"    {it}\n" for it in lines[:15] + lines[15:][-5:])
 
 
 def main():
@@ -29,7 +38,8 @@ def main():
         if found == int(waits or 0):
             passed += 1
         elif name not in kept:
-            failed.append(f"FAILED {name}: crates.txt says that {waits or 0} may wait, the checker counted {found}\n")
+            failed.append(f"FAILED {name}: crates.txt says that {waits or 0} may wait, the checker counted {found}\n"
+                          + against(said, name))
     if kept:
         print(f"not compared in this run, since rt ci kept their proofs: {' '.join(kept)}")
     print(f"{''.join(failed)}{passed} passed, {len(failed)} failed")
