@@ -15,7 +15,7 @@ from pathlib import Path
 TOP = Path(__file__).resolve().parent.parent
 PROVED = re.compile(r"^logic=(?:.* may-wait=(\d+))?.*\n(?:(?!logic=).*\n)*?rt: (\w+) proved$", re.M)
 SECTION = re.compile(r"^== (\w+)\n((?:(?!== ).*\n)*)", re.M)
-AGAINST = re.compile(r"^.*(?:: error: |: not proved|warning: |^rt: ).*$", re.M)
+AGAINST = re.compile(r"^.*(?:: error: |: not proved|warning: | not in the layout|^rt: ).*$", re.M)
 LISTED = re.compile(r"^(\w+)(?:[^:#\n]* may_wait=(\d+))?[^:#\n]*:", re.M)
 
 

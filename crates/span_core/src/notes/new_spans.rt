@@ -40,8 +40,7 @@ pub(crate) fn new_notes(
     fields: &Fields,
     paths: &mut SharedPaths,
 ) -> Result<Vec<Note>, Fault>
-    requires known {
-        Knows (λ path. path_text (path ++ (meta_given new.now.meta).name ∷ [])) forest.now.spans paths.old }
+    requires known { Knows (λ path. path_text (path ++ (meta_given new.now.meta).name ∷ [])) forest.now.spans paths.old }
     requires remembers { Remembers forest.now recent.old.paths }
     ensures notes { IfOk result (λ notes. map plain_note notes.items
         ≡ map (first_note_of forest.now.spans new.now fields.now)
