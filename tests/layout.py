@@ -24,7 +24,7 @@ def main():
         lay_copy(crates, copy)
         for crate in crates:
             ended = subprocess.run(["rt", "fmt"], cwd=copy / "crates" / crate, capture_output=True, text=True)
-            files = sources(copy, [crate])
+            files = {it for it in sources(copy, [crate]) if it.parts[0] == "crates"}
             others = sorted(it for it in files if not filecmp.cmp(TOP / it, copy / it, shallow=False))
             for place in others:
                 print(f"FAILED {place} is not in the layout: run rt fmt in crates/{crate}")
