@@ -23,7 +23,8 @@ from border import LIBRARY, said_by_example  # noqa: E402
 
 ROW = re.compile(r"^ *(\d+) +(\d+) (nobody|a writer) +([\d.]+) +([\d.]+) +[\d.]+$", flags=re.M)
 BESIDE = re.compile(r"^layers (\d+): ([\d.]+) million .*, refused (\d+)$", flags=re.M)
-ALONE = re.compile(r"^(notes|lines): ([\d.]+) million ", flags=re.M)
+ALONE = re.compile(r"^(notes|notes_into|lines): ([\d.]+) million ", flags=re.M)
+READING = {"notes": "notes", "notes_into": "notes into one", "lines": "lines"}
 
 
 def rows_of(said):
@@ -42,7 +43,7 @@ def values_of(said):
 
 def best_of(name):
     """Which of several runs counts."""
-    return max if name in ("notes", "lines") or name.startswith("refused") else min
+    return max if name in READING or name.startswith("refused") else min
 
 
 def measured(library, runs, seconds):
@@ -66,8 +67,8 @@ def with_values(rows, values):
     for row in rows:
         is_its = (row["threads"], row["reading"]) == (1, "a writer")
         yield {**row, "refused": values[f"refused_{row['layers']}"]} if is_its else row
-    for name in ("notes", "lines"):
-        yield {"layers": 1, "threads": 0, "reading": f"the drain alone, {name}", "package": values[name]}
+    for name, what in READING.items():
+        yield {"layers": 1, "threads": 0, "reading": f"the drain alone, {what}", "package": values[name]}
 
 
 def show(rows, values):
@@ -79,7 +80,8 @@ def show(rows, values):
         million, refused = values[f"beside_{layers}"], values[f"refused_{layers}"]
         print(f"one thread beside a writer, layers {layers}: {million:.2f} million calls a second for "
               f"{values['seconds']:g} s, refused {refused}")
-    print(f"out of the drain alone: {values['notes']:.2f} million notes a second, {values['lines']:.2f} million lines")
+    print("out of the drain alone, million a second: "
+          + ", ".join(f"{what} {values[name]:.2f}" for name, what in READING.items()))
 
 
 def main():

@@ -47,11 +47,12 @@ PASSES = "print('3 passed, 1 failed')\nprint('4 passed, 0 failed')\n"
 ALL = " ".join(WAITS)
 
 
-def ci(waits=(), kept=(), more="", last="5 passed, 0 failed"):
-    """What rt ci prints."""
+def ci(waits=(), kept=(), against=(), more="", last="5 passed, 0 failed"):
+    """What rt ci prints; of a crate that isn't proved what stands against it."""
     said = []
     for name, number in {**LISTED, **dict(waits)}.items():
         proof = f"logic=proved functions=1{f' may-wait={number}' if number else ''} sum=1\nrt: {name} proved\n"
+        proof = dict(against).get(name, proof)
         said.append(f"rt: {name} is kept: an earlier run proved it\n" if name in kept else f"== {name}\n{proof}")
         said.append(f"== {name}: its tests\nlogic=proved may-wait=77\nrt: {name}: its tests are proved\n")
     return "".join(said) + f"{more}{last}\n"
@@ -143,6 +144,12 @@ def wholes(rows, clone):
     told = "low: crates.txt says that 0 may wait, the checker counted 1"
     other = "tracerun: crates.txt says that 2 may wait, the checker counted 3"
     rows.wants("others may wait", found, 1, f"{good - 2} passed, 2 failed", told, other)
+    errors = [f"src/lib.rt:{it}: error: no proof of goal-{it}" for it in range(1, 31)]
+    said = ["quick pass", "src/lib.rt is not in the layout", *errors, "rt: low: NOT PROVED"]
+    found = clone.run(said=ci(against={"low": "".join(f"{it}\n" for it in said)}, last="4 passed, 1 failed"), status=1)
+    counted = "FAILED low: crates.txt says that 0 may wait, the checker counted none, as it is not proved"
+    told = "".join(f"\n    {it}" for it in [*said[1:16], *said[-5:]])
+    rows.wants("a crate is not proved", found, 1, f"{good - 2} passed, 2 failed", counted + told)
     found = clone.run(said=ci(kept=["low", "tracerun"]))
     told = "not compared in this run, since rt ci kept their proofs: low tracerun"
     rows.wants("kept proofs", found, 0, f"{good - 2} passed, 0 failed", told)

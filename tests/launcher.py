@@ -62,6 +62,7 @@ for below in $(sed -n "s/^${PWD##*/}\\b.*://p" ../../crates.txt); do [ ! -d ../$
 [ "${PWD##*/}-$RT" != low-hangs ] || { echo "so far: 1 of 2 functions checked"; exec sleep 60; }
 [ "${PWD##*/}-$RT" != low-is_slow ] || while [ ! -e "$FAKE/go" ]; do sleep 0.1; done
 echo "rt: chose --jobs 4"
+[ "${PWD##*/}-$RT" != low-begins ] || echo "rt: low: begins with what a check kept in /elsewhere/crates/low"
 echo "so far: 0 of 2 functions checked; the verdict comes last"
 [ "${PWD##*/}-$RT" != mid-hangs_later ] || exec sleep 60
 [ "${PWD##*/}-$RT" != low-refuses ] || { echo "fn low::it: not proved"; exit 1; }
@@ -292,6 +293,9 @@ def nothing_twice(rows, clone):
     write(f"{clone.at}/crates/mid/src/lib.rt", "pub fn other() {}\n")
     wants("after an edit", ["mid"])
     rows.wants("times of proofs from nothing alone", clone.timed(), [])
+    clone.forgets()
+    clone.run("--prove", rt="begins")
+    rows.wants("after a check in another copy", (clone.proofs(), clone.timed()), (every, ["mid 2", "tracerun 2"]))
     clone.forgets()
     clone.of_rt("lib", "low")
     rows.wants("rt in the clone", clone.proofs(), ["low"])

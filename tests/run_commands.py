@@ -110,7 +110,7 @@ LIBRARIES = {
         needs="cc"),
     "python3 bench/border.py": Run(prints="| layers | ", needs="cc"),
     "python3 bench/throughput.py": Run(
-        "python3 bench/throughput.py --seconds 0.1", "out of the drain alone: ", "cargo"),
+        "python3 bench/throughput.py --seconds 0.1", "out of the drain alone, million a second: notes ", "cargo"),
     "bench/tracing.py instructions|proved|allocations|clock|benches": Run(
         "for it in instructions allocations clock; do python3 bench/tracing.py $it --folder $ROOM/yard --first 1 "
         "--threads 1 --turns 1 --rounds 100 || exit; done", "ns of processor", "sources valgrind"),

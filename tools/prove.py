@@ -44,6 +44,8 @@ class Proof(Command):
         self.out, self.kept = (it / "crates" / name / "out" for it in (TOP, self.room))
 
     def reads(self, line):
+        # (rt takes what was checked in other copies on this machine too)
+        self.is_from_nothing &= ": begins with what a check kept in " not in line
         for checked, functions in SO_FAR.findall(line):
             self.checked = max(self.checked, int(checked))
             self.functions = max(int(functions), 0 if self.is_from_nothing else self.functions)
@@ -54,6 +56,11 @@ class Proof(Command):
     def done(self):
         """The functions that are checked."""
         return self.functions if self.is_proved() else min(self.checked, self.functions)
+
+    def most_jobs(self):
+        """How many jobs it gets at most beside a longer way: each loads all that the crate stands on, which takes as long
+        as some 25 functions."""
+        return max(self.functions // 25, 1)
 
     def left(self):
         """The seconds that are left of it by its listed time."""
@@ -127,8 +134,8 @@ class Progress:
 def begin_those_that_can(proofs, jobs):
     """Begins crates below which all is proved, those with the longest ways first, and gives them.
 
-    Each gets a job for each processor: no proof gets more jobs later, and none has work for all of them all the time.
-    The one with the longest way of all goes before the others, for what that one leaves. At once are three for each
+    The one with the longest way of all gets a job for each processor, and goes before the others, for what that one
+    leaves: no proof gets more jobs later, and none has work for all of them all the time. At once are three for each
     four processors: so those with short ways run beside the last ones, which leave the most.
     """
     ways = ways_through(proofs)
@@ -140,7 +147,8 @@ def begin_those_that_can(proofs, jobs):
         is_longest = all(ways[proof] >= ways[it] for it in proofs if it.is_at_work())
         words = "rt run --jobs {} -- replay" if proof is proofs[-1] else "rt lib --jobs {}"
         proof.is_from_nothing = not proof.kept.exists()
-        proof.begin(words.format(jobs).split(), proof.kept.parent, 0 if is_longest else 10)
+        its_jobs = jobs if is_longest else min(proof.most_jobs(), jobs)
+        proof.begin(words.format(its_jobs).split(), proof.kept.parent, 0 if is_longest else 10)
     return begun
 
 

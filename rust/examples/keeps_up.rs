@@ -2,9 +2,9 @@
 //!
 //! A round is a new span with a field, an enter, an exit and a close: four calls, at one callsite. Beside a writer, who
 //! writes the lines to nowhere, a call that finds the ring full is refused, counted, and made again. The drain alone is
-//! asked for all notes of a full ring, as structs and as lines that are written to nowhere, with one layer, which is
-//! told of each call. `cargo run --release --offline --example keeps_up [SECONDS]`
-use span_registry::{retry, Callsite, Drain, Error, Layer, Level, Meta, OnFull, Parent, Registry};
+//! asked for all notes of a full ring, as structs, as one struct that each is read into, and as lines that are written to
+//! nowhere, with one layer, which is told of each call. `cargo run --release --offline --example keeps_up [SECONDS]`
+use span_registry::{retry, Callsite, Drain, Error, Layer, Level, Meta, Note, OnFull, Parent, Registry};
 use std::io;
 use std::iter;
 use std::time::{Duration, Instant};
@@ -90,6 +90,11 @@ fn main() -> Result<(), Box<dyn std::error::Error>> {
     }
     let notes = alone(Layer::tree(), |drain| iter::from_fn(|| drain.note()).count() as u64)?;
     println!("notes: {notes:.2} million a second out of the drain alone");
+    let into = alone(Layer::tree(), |drain| {
+        let mut note = Note::default();
+        iter::from_fn(|| drain.note_into(&mut note).then_some(())).count() as u64
+    })?;
+    println!("notes_into: {into:.2} million a second out of the drain alone");
     let lines = alone(Layer::compact(), |drain| {
         drain.write_to(&mut io::sink()).unwrap_or_default()
     })?;

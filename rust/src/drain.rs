@@ -103,14 +103,23 @@ impl Drain {
     /// What the next line tells of a layer in the [form of trees](Form::Tree); lines of other layers are passed over.
     /// None where none is at hand now. It doesn't wait for one.
     pub fn note(&mut self) -> Option<Note> {
-        loop {
-            self.next_ready(|_| true)?;
+        let mut note = Note::default();
+        self.note_into(&mut note).then_some(note)
+    }
+
+    /// Reads the [note](Drain::note) that comes next in place of an earlier one, whose memory it uses: a program that
+    /// writes its notes and keeps none allocates nothing for them. False where none is at hand now; then the earlier one
+    /// stays.
+    pub fn note_into(&mut self, note: &mut Note) -> bool {
+        while self.next_ready(|_| true).is_some() {
             let head = &mut self.heads[self.at];
             head.ready = None;
             if head.is_note {
-                return Some(head.told.note(self.parts.part(self.at as u32)));
+                head.told.note_into(self.parts.part(self.at as u32), note);
+                return true;
             }
         }
+        false
     }
 
     /// The lines at hand, until there is none.

@@ -163,7 +163,7 @@ impl Head {
         if self.is_note {
             self.told.text(part)
         } else {
-            text_of(&self.buffer[..length])
+            text_of(&self.buffer[..length]).into_owned()
         }
     }
 

@@ -64,6 +64,14 @@ pub struct NoteField {
 }
 
 impl NoteField {
+    pub(crate) fn empty() -> NoteField {
+        NoteField {
+            key: String::new(),
+            kind: Kind::Text,
+            value: String::new(),
+        }
+    }
+
     fn parts(&self) -> (Cow<'_, [u8]>, Kind, &[u8]) {
         (Cow::Borrowed(self.key.as_bytes()), self.kind, self.value.as_bytes())
     }
@@ -103,6 +111,26 @@ pub struct Note {
     pub message: Option<String>,
     /// Those of a new span, of a record or of an event; all of them where a span closes.
     pub fields: Vec<NoteField>,
+}
+
+/// A note without texts, to be [read into](crate::Drain::note_into). It takes no memory.
+impl Default for Note {
+    fn default() -> Note {
+        Note {
+            layer: 0,
+            kind: NoteKind::New,
+            at: Duration::ZERO,
+            worker: 0,
+            id: None,
+            parent: None,
+            level: Level::Trace,
+            target: String::new(),
+            name: String::new(),
+            path: String::new(),
+            message: None,
+            fields: Vec::new(),
+        }
+    }
 }
 
 /// A note's text, of its parts but for the fields.

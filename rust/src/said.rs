@@ -1,6 +1,7 @@
 //! A note as the proved registry tells it: numbers, and texts one after another.
 #![forbid(unsafe_code)]
 use crate::raw::{Lines, NextNote, SpanField, SpanNote};
+use std::borrow::Cow;
 
 /// Room for the fields and the bytes of most notes.
 const FIELDS: usize = 8;
@@ -53,6 +54,11 @@ impl Said {
         self.bytes + 8 * self.count
     }
 
+    /// How many fields it has.
+    pub(crate) fn count(&self) -> usize {
+        self.count
+    }
+
     /// The names from the root on, with colons between them.
     #[inline]
     pub(crate) fn path(&self) -> &[u8] {
@@ -79,10 +85,11 @@ impl Said {
     }
 }
 
-/// What the library says is UTF-8, and to look whether it is is quicker than to make it so.
-pub(crate) fn text_of(said: &[u8]) -> String {
+/// What the library says is UTF-8.
+pub(crate) fn text_of(said: &[u8]) -> Cow<'_, str> {
+    // To look whether it is is quicker than to make it so.
     match std::str::from_utf8(said) {
-        Ok(text) => text.to_owned(),
-        Err(_) => String::from_utf8_lossy(said).into_owned(),
+        Ok(text) => Cow::Borrowed(text),
+        Err(_) => String::from_utf8_lossy(said),
     }
 }

@@ -89,25 +89,33 @@ impl Told {
             .map(|((key, value), kind)| (as_given(key), kind, value))
     }
 
-    /// As a struct, of a line of this part.
-    pub(crate) fn note(&self, part: &Part) -> Note {
+    /// As a struct, of a line of this part: in the memory of an earlier one.
+    pub(crate) fn note_into(&self, part: &Part, note: &mut Note) {
         let (said, registry) = (self.said.note(), part.common().number());
         let whole = |id: Option<RawId>| id.map(|id| Id::of(registry, part.place(), id));
-        let kind = self.kind();
-        let is_event = kind == NoteKind::Event;
-        Note {
-            layer: said.layer as usize,
-            kind,
-            at: Duration::from_nanos(self.at),
-            worker: part.first_worker() + said.worker,
-            id: whole(self.id().filter(|_| !is_event)),
-            parent: whole(self.parent),
-            level: self.level,
-            target: self.target.clone(),
-            name: self.name.clone(),
-            path: text_of(self.said.path()),
-            message: is_event.then(|| text_of(self.said.message())),
-            fields: self.fields().map(field).collect(),
+        note.kind = self.kind();
+        let is_event = note.kind == NoteKind::Event;
+        note.layer = said.layer as usize;
+        note.at = Duration::from_nanos(self.at);
+        note.worker = part.first_worker() + said.worker;
+        note.id = whole(self.id().filter(|_| !is_event));
+        note.parent = whole(self.parent);
+        note.level = self.level;
+        put(self.target.as_bytes(), &mut note.target);
+        put(self.name.as_bytes(), &mut note.name);
+        put(self.said.path(), &mut note.path);
+        if is_event {
+            put(self.said.message(), note.message.get_or_insert_with(String::new));
+        } else {
+            note.message = None;
+        }
+        let count = self.said.count();
+        note.fields.truncate(count);
+        note.fields.resize_with(count, NoteField::empty);
+        for (field, (key, kind, value)) in note.fields.iter_mut().zip(self.fields()) {
+            put(&key, &mut field.key);
+            field.kind = kind;
+            put(value, &mut field.value);
         }
     }
 
@@ -116,7 +124,7 @@ impl Told {
         let room = BESIDE + self.said.room() + self.name.len() + self.target.len();
         let mut text = Vec::with_capacity(room);
         self.write(part, &mut text);
-        String::from_utf8(text).unwrap_or_else(|error| text_of(error.as_bytes()))
+        String::from_utf8(text).unwrap_or_else(|error| text_of(error.as_bytes()).into_owned())
     }
 
     /// Puts that behind others.
@@ -162,10 +170,7 @@ fn as_given(key: &[u8]) -> Cow<'_, [u8]> {
     Cow::Owned(key.into_owned().into_bytes())
 }
 
-fn field((key, kind, value): (Cow<'_, [u8]>, Kind, &[u8])) -> NoteField {
-    NoteField {
-        key: text_of(&key),
-        kind,
-        value: text_of(value),
-    }
+fn put(said: &[u8], text: &mut String) {
+    text.clear();
+    text.push_str(&text_of(said));
 }

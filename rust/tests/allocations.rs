@@ -1,5 +1,5 @@
 //! How many allocations a thread takes for a round once the memory of slots and buffers is there, this crate's own and
-//! the library's.
+//! the library's, and what the library frees while lines are read.
 //!
 //! The library takes its memory by three functions of the toolchain's shim, for which this program has its own.
 mod common;
@@ -9,10 +9,14 @@ use span_registry::{Drain, Error, FmtSpan, Layer, Parent, Registry};
 use std::alloc::{GlobalAlloc, Layout, System};
 use std::cell::Cell;
 use std::ffi::c_void;
+use std::sync::mpsc;
+use std::thread;
 
 thread_local! {
     // It takes no memory, and is there to the thread's end.
     static TAKEN: Cell<u64> = const { Cell::new(0) };
+    // Of the library's blocks alone.
+    static FREED: Cell<u64> = const { Cell::new(0) };
 }
 
 fn take() {
@@ -83,6 +87,7 @@ pub unsafe extern "C" fn rattle_realloc(at: *mut c_void, _old: usize, size: usiz
 /// The block came from these functions and wasn't given back.
 #[no_mangle]
 pub unsafe extern "C" fn rattle_dealloc(at: *mut c_void) {
+    FREED.set(FREED.get() + 1);
     // SAFETY: the caller's.
     unsafe { free(at) }
 }
@@ -126,7 +131,7 @@ fn a_round_takes_few_allocations() -> Result<(), Error> {
     let as_span = of_rounds(&registry, &mut drain, |registry| {
         registry.span_at(&site, Parent::Current, FIELDS)?.try_in_scope(|| ())
     })?;
-    assert_eq!((by_ids, at_callsite, as_span), (8, 5, 6));
+    assert_eq!((by_ids, at_callsite, as_span), (6, 3, 4));
     Ok(())
 }
 
@@ -150,5 +155,35 @@ fn calls_of_which_no_layer_is_told_take_none() -> Result<(), Error> {
     // Each call has its place in the ring.
     assert_eq!(drain.lines().count(), 1);
     assert_eq!(drain.counts().batches, 1 + 6 * (1 + ROUNDS));
+    Ok(())
+}
+
+#[test]
+fn what_calls_took_is_not_freed_by_the_reader() -> Result<(), Error> {
+    const FIELDS: &[(&str, &str)] = &[("k", "value")];
+    let (registry, drain) = Registry::builder().layer(Layer::compact()).build()?;
+    let (told, tells) = mpsc::sync_channel(0);
+    let (was_read, reads) = mpsc::sync_channel(0);
+    let reader = thread::spawn(move || {
+        let mut drain = drain;
+        let mut before = 0;
+        for count in 0..2 * ROUNDS {
+            if count == ROUNDS {
+                before = FREED.get();
+            }
+            tells.recv().expect("a round");
+            assert!(drain.line().is_some());
+            was_read.send(()).expect("a round");
+        }
+        // The drain outlives the counting: to drop it is to free what it has.
+        (FREED.get() - before, drain)
+    });
+    for _ in 0..2 * ROUNDS {
+        registry.event(&info("request"), "told", FIELDS)?;
+        told.send(()).expect("a reader");
+        reads.recv().expect("a reader");
+    }
+    let (freed, _drain) = reader.join().expect("a reader");
+    assert_eq!(freed, 0);
     Ok(())
 }

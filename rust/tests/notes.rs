@@ -81,6 +81,43 @@ fn a_note_tells_the_same_as_a_struct() -> Result<(), Error> {
     Ok(())
 }
 
+/// Spans and events by turns, with more fields and fewer, short texts and long ones.
+fn tell_all_kinds(registry: &Registry) -> Result<(), Error> {
+    let a = span!(registry, target: "app::long::target", Level::Warn, "a", n = 7, ok = true, text = "a long text");
+    event!(registry, target: "app", Level::Info, { rows = 3_u64 }, "a long message");
+    let inside = a.try_enter()?;
+    let b = span!(registry, target: "b", Level::Info, "b");
+    event!(registry, target: "app", Level::Info, "m");
+    a.record(&[("r", "2"), ("s", "")]);
+    drop(inside);
+    drop((b, a));
+    Ok(())
+}
+
+#[test]
+fn a_note_that_is_read_into_another_keeps_nothing_of_it() -> Result<(), Error> {
+    let (registry, mut drain) = Registry::builder().layer(Layer::tree()).build()?;
+    let mut earlier = Note::default();
+    assert!(!drain.note_into(&mut earlier));
+    assert_eq!(earlier, Note::default());
+    tell_all_kinds(&registry)?;
+    let wanted: Vec<Note> = std::iter::from_fn(|| drain.note()).collect();
+    tell_all_kinds(&registry)?;
+    for wanted in wanted {
+        assert!(drain.note_into(&mut earlier));
+        // Both rounds say the same, of other spans.
+        let mut again = earlier.clone();
+        assert_eq!(again.id.is_some(), wanted.id.is_some());
+        assert_eq!(again.parent.is_some(), wanted.parent.is_some());
+        (again.at, again.id, again.parent) = (wanted.at, wanted.id, wanted.parent);
+        assert_eq!(again, wanted);
+    }
+    let last = earlier.clone();
+    assert!(!drain.note_into(&mut earlier));
+    assert_eq!(earlier, last);
+    Ok(())
+}
+
 #[test]
 fn of_several_layers_each_is_told_in_its_form() -> Result<(), Error> {
     let quiet = Layer::new(Form::Tree).with_targets(Targets::new().with_target("app", Level::Info));

@@ -14,6 +14,7 @@ mod on_latest;
 mod on_registry;
 mod outlets;
 mod plain;
+mod reader;
 mod ring;
 mod slots;
 mod stack;

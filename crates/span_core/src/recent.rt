@@ -5,7 +5,7 @@ ghost use Rattle.span_forest.specs.Forest.{ForestView};
 ghost use Rattle.span_core.specs.inside.Remembering.{Remembers};
 
 use crate::known_paths::KnownPaths;
-use span_id::{Fault, Field, Fields};
+use span_id::{Fault, Field, Fields, Id};
 use span_layers::Note;
 use span_recent::{RecentFields, RecentMetas};
 use std::alloc::Global;
@@ -14,10 +14,13 @@ use std::mem;
 // For how many notes more than twice those of a call its list may have room.
 const MOST_LEFT: usize = 2;
 
+// A list with room for more ids than this is freed.
+const MOST_IDS: usize = 64;
+
 /// The metas that were copied lately, to be shared where they come again, the fields of events that were copied lately,
-/// to be written over where nobody else has them, the paths that were told at spans that are open, and a list for the
-/// notes of a call to come, which has no memory where there is none. The metas and the fields have less than 64 KiB
-/// together, whatever is told.
+/// to be written over where nobody else has them, the paths that were told at spans that are open, and lists for the
+/// notes of a call to come and for the spans that it closes, which have no memory where there is none. The metas and the
+/// fields have less than 64 KiB together, whatever is told.
 #[derive(Drop)]
 pub(crate) struct Recent {
     pub(crate) alloc: Global,
@@ -25,6 +28,7 @@ pub(crate) struct Recent {
     fields: RecentFields,
     pub(crate) paths: KnownPaths,
     pub(crate) spare: Vec<Note>,
+    ids: Vec<Id>,
     // How many entries of stacks were looked at in vain since the last event that was told in a deep one.
     pub(crate) in_vain: u64,
 }
@@ -40,6 +44,7 @@ impl Recent {
             fields: RecentFields::none(alloc),
             paths: KnownPaths::none(alloc, shares),
             spare: Vec::new(alloc),
+            ids: Vec::new(alloc),
             in_vain: 0,
         }
     }
@@ -55,6 +60,26 @@ impl Recent {
             self.fields.copy(fields)
         } else {
             Fields::copy_of(self.alloc, fields)
+        }
+    }
+
+    /// An empty list for the spans that a release closes: the one that was kept, in place of which another without memory
+    /// stands then.
+    pub(crate) fn empty_ids(&mut self) -> Vec<Id>
+        ensures empty { result.items ≡ [] }
+        ensures paths { self.new.paths ≡ self.old.paths }
+    {
+        let mut ids = mem::replace(&mut self.ids, Vec::new(self.alloc));
+        ids.clear();
+        ids
+    }
+
+    /// Keeps a list of ids for the next release, unless it has room for many.
+    pub(crate) fn take_ids(&mut self, ids: Vec<Id>)
+        ensures { self.new.paths ≡ self.old.paths }
+    {
+        if ids.capacity() <= MOST_IDS {
+            self.ids = ids;
         }
     }
 }

@@ -159,8 +159,24 @@ pub(crate) fn read_fields(alloc: Global, fields: &[SpanField], bytes: &[u8]) -> 
     if fields.is_empty() && bytes.is_empty() {
         return Some(Fields::none());
     }
+    if let [field] = fields {
+        return read_one(alloc, field, bytes);
+    }
     let list = read_list(alloc, fields, bytes)?;
     Fields::new(alloc, list).ok()
+}
+
+// The one field whose texts are all the bytes: it takes no list of its own, as those of several do.
+#[inline(never)]
+fn read_one(alloc: Global, field: &SpanField, bytes: &[u8]) -> Option<Fields>
+    ensures are { OnSome result (AreFields (field.now ∷ []) bytes.now) }
+    ensures fields { IfSome result (λ read. read ≡ said_fields (field.now ∷ []) bytes.now) }
+{
+    let (field, behind) = read_field(alloc, field, bytes)?;
+    if !behind.is_empty() {
+        return None;
+    }
+    Fields::one(alloc, field).ok()
 }
 
 // The fields whose texts are all the bytes.

@@ -1,4 +1,4 @@
-ghost use Rattle.std.specs.Prelude.{◌≡◌, ◌≤◌, Some, IfOk};
+ghost use Rattle.std.specs.Prelude.{◌≡◌, ◌≤◌, [], Some, IfOk};
 ghost use Rattle.span_slots.specs.Table.{freed_with, without_entry};
 ghost use Rattle.span_id.specs.Id.{slot_of};
 ghost use Rattle.span_forest.specs.Spans.{IsOpen, nodes_of, parent_of};
@@ -13,22 +13,23 @@ use crate::holders::{drop_holder, lower};
 use crate::span::{Holder, Span};
 use span_id::Id;
 use span_slots::Slots;
-use std::alloc::{AllocError, Global};
+use std::alloc::AllocError;
 
 // The count of a span that one holder or child alone holds open.
 const LAST: u32 = 1;
 
-// The spans that close, child first, where a span gives back one holder. Its count and its parent are known, so only the
-// spans above it are looked up.
+// The spans that close, child first, where a span gives back one holder, in a list that was empty. Its count and its
+// parent are known, so only the spans above it are looked up.
 #[inline(always)]
 pub(crate) fn chain(
     slots: &Slots<Span>,
-    alloc: Global,
+    empty: Vec<Id>,
     id: Id,
     holder: Holder,
     count: u32,
     parent: Option<Id>,
 ) -> Result<Vec<Id>, AllocError>
+    requires empty { empty.items ≡ [] }
     requires settled { IsSettled slots.now.entries }
     requires held { IsHeld (nodes_of slots.now.entries) id holder }
     requires count { count ≡ reference_count (nodes_of slots.now.entries) id }
@@ -36,27 +37,28 @@ pub(crate) fn chain(
     ensures { IfOk result (λ ids. Chain (without_holder (nodes_of slots.now.entries) id holder) (Some id) ids.items) }
 {
     if count > LAST {
-        return Ok(Vec::new(alloc));
+        return Ok(empty);
     }
-    chain_up(slots, alloc, id, holder, parent)
+    chain_up(slots, empty, id, holder, parent)
 }
 
 // The same where nothing else holds the span: it closes, and perhaps spans above it do.
 #[inline(never)]
 fn chain_up(
     slots: &Slots<Span>,
-    alloc: Global,
+    empty: Vec<Id>,
     id: Id,
     holder: Holder,
     parent: Option<Id>,
 ) -> Result<Vec<Id>, AllocError>
+    requires empty { empty.items ≡ [] }
     requires settled { IsSettled slots.now.entries }
     requires held { IsHeld (nodes_of slots.now.entries) id holder }
     requires last { reference_count (nodes_of slots.now.entries) id ≤ 1 }
     requires parent { parent ≡ parent_of (nodes_of slots.now.entries) id }
     ensures { IfOk result (λ ids. Chain (without_holder (nodes_of slots.now.entries) id holder) (Some id) ids.items) }
 {
-    let mut closed = Vec::new(alloc);
+    let mut closed = empty;
     closed.push(id)?;
     let mut next = parent;
     'up: while let Some(at) = next {

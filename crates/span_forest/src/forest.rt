@@ -281,7 +281,26 @@ impl Forest {
         ensures list { IfOk result (λ ids. ids.items ≡ closing_list self.now.spans id holder) }
         ensures memory { IfErr result (λ fault. fault ≡ Fault.Memory) }
     {
-        let closed = chain(&self.slots, self.alloc, id, holder, count, parent)?;
+        self.closing_above_in(Vec::new(self.alloc), id, holder, count, parent)
+    }
+
+    /// The same as `closing_above`, in a list of the caller's that is empty: it takes no memory where that has enough room.
+    pub fn closing_above_in(
+        &self,
+        empty: Vec<Id>,
+        id: Id,
+        holder: Holder,
+        count: u32,
+        parent: Option<Id>,
+    ) -> Result<Vec<Id>, Fault>
+        requires empty { empty.items ≡ [] }
+        requires held { IsHeld self.now.spans id holder }
+        requires count { count ≡ reference_count self.now.spans id }
+        requires parent { parent ≡ parent_of self.now.spans id }
+        ensures list { IfOk result (λ ids. ids.items ≡ closing_list self.now.spans id holder) }
+        ensures memory { IfErr result (λ fault. fault ≡ Fault.Memory) }
+    {
+        let closed = chain(&self.slots, empty, id, holder, count, parent)?;
         Ok(closed)
     }
 

@@ -1,5 +1,5 @@
 //! Copies of texts and fields that a caller lent.
-ghost use Rattle.std.specs.Prelude.{◌≡◌, IfOk, IfErr, OnOk, length, string_bytes, vec_len};
+ghost use Rattle.std.specs.Prelude.{◌≡◌, IfOk, IfErr, OnOk, length, string_bytes};
 ghost use Rattle.span_id.specs.Meta.{plain_fields};
 
 use crate::fault::Fault;
@@ -33,13 +33,9 @@ const MOST_LEFT: usize = 32;
 
 /// Writes equal fields over those of a list that is as long, place by place. The only error is `Memory`, after which any
 /// texts may stand in the list.
-pub(crate) fn write_fields(
-    alloc: Global,
-    list: &mut Vec<Field>,
-    fields: &[Field],
-) -> Result<(), Fault>
-    requires len { vec_len list.old ≡ length fields.now }
-    ensures fields { OnOk result (plain_fields list.new.items ≡ plain_fields fields.now) }
+pub(crate) fn write_fields(alloc: Global, list: &mut [Field], fields: &[Field]) -> Result<(), Fault>
+    requires len { length list.old ≡ length fields.now }
+    ensures fields { OnOk result (plain_fields list.new ≡ plain_fields fields.now) }
     ensures memory { IfErr result (λ fault. fault ≡ Fault.Memory) }
 {
     for (index, place) in list.iter_mut().enumerate() {

@@ -1,22 +1,27 @@
 //! Lists of fields that have several owners.
-ghost use Rattle.std.specs.Prelude.{◌≡◌, ◌++◌, [], IfOk, IfErr, OnOk, OnErr, length, map, nat_eq};
+ghost use Rattle.std.specs.Prelude.{◌≡◌, [], ◌∷◌, ◌++◌, IfOk, IfErr, OnOk, OnErr, length, map, nat_eq};
 ghost use Rattle.span_id.specs.Meta.{key_value, plain_fields};
 
 use crate::copies::{copy_fields, write_fields};
 use crate::fault::Fault;
 use crate::meta::Field;
+use smallvec::SmallVec;
 use std::alloc::Global;
 use std::fmt::{self, Debug, Formatter, Write};
 use std::hash::{Hash, Hasher};
 use std::marker::Model;
 use std::sync::Arc;
 
+// How many fields lie in the block that counts the owners. A list of one field, the commonest, takes no second block; one
+// of more is 40 bytes larger.
+const IN_PLACE: usize = 1;
+
 /// Fields that are copied or moved in once, and then shared by whoever keeps them, in any threads.
 ///
 /// Contracts see the keys and the values, in order. No fields take no memory.
 #[derive(Drop)]
 pub struct Fields {
-    shared: Option<Arc<Vec<Field>, Global>>,
+    shared: Option<Arc<SmallVec<Field, IN_PLACE>, Global>>,
 }
 
 impl Model for Fields {
@@ -25,11 +30,10 @@ impl Model for Fields {
 
     ghost Value = { List KeyValue };
 
-    ghost use Rattle.std.specs.Prelude.{vec_items};
     ghost use Rattle.std.specs.Arc.{arc_value};
-    ghost use Rattle.span_id.specs.inside.Fields.{fields_of};
+    ghost use Rattle.span_id.specs.inside.Fields.{fields_of, listed_fields};
 
-    ghost view = { λ fields. fields_of (λ shared. vec_items (arc_value shared)) fields.shared };
+    ghost view = { λ fields. fields_of (λ shared. listed_fields (arc_value shared)) fields.shared };
 }
 
 impl Fields {
@@ -40,8 +44,18 @@ impl Fields {
         Fields { shared: None }
     }
 
+    /// This field, which is moved in.
+    ///
+    /// The only error is `Memory`, where the list can get no count of owners; the field is dropped then.
+    pub fn one(alloc: Global, field: Field) -> Result<Fields, Fault>
+        ensures field { IfOk result (λ fields. fields ≡ key_value field ∷ []) }
+        ensures memory { IfErr result (λ fault. fault ≡ Fault.Memory) }
+    {
+        Fields::owned(alloc, SmallVec::from_buf(alloc, [field]))
+    }
+
     /// These fields: the list is moved in as it is, with the room that it has, and nothing is copied. An empty list is
-    /// dropped.
+    /// dropped, and of one with no room for more than a field only that field is moved.
     ///
     /// The only error is `Memory`, where the list can get no count of owners; it is dropped then.
     pub fn new(alloc: Global, list: Vec<Field>) -> Result<Fields, Fault>
@@ -51,6 +65,14 @@ impl Fields {
         if list.is_empty() {
             return Ok(Fields::none());
         }
+        Fields::owned(alloc, SmallVec::from_vec(list))
+    }
+
+    // The fields of a list that is not empty, to which the count of owners comes.
+    fn owned(alloc: Global, list: SmallVec<Field, IN_PLACE>) -> Result<Fields, Fault>
+        ensures fields { IfOk result (λ fields. fields ≡ plain_fields list.items) }
+        ensures memory { IfErr result (λ fault. fault ≡ Fault.Memory) }
+    {
         let shared = Arc::new(alloc, list)?;
         Ok(Fields {
             shared: Some(shared),
@@ -62,8 +84,11 @@ impl Fields {
         ensures fields { IfOk result (λ copies. copies ≡ plain_fields fields.now) }
         ensures memory { IfErr result (λ fault. fault ≡ Fault.Memory) }
     {
-        let copies = copy_fields(alloc, fields)?;
-        Fields::new(alloc, copies)
+        if fields.is_empty() {
+            return Ok(Fields::none());
+        }
+        let copies = copy_list(alloc, fields)?;
+        Fields::owned(alloc, copies)
     }
 
     /// Equal fields of their own, in the same order, as `copy_of` makes them: in the memory of these, where they are as
@@ -79,7 +104,7 @@ impl Fields {
         if let Some(list) = &mut these.shared {
             if let Some(list) = Arc::get_mut(list) {
                 if list.len() == fields.len() {
-                    write_fields(alloc, list, fields)?;
+                    write_fields(alloc, list.as_mut_slice(), fields)?;
                     return Ok(these);
                 }
             }
@@ -155,9 +180,9 @@ impl Fields {
         ensures fields { IfOk result (λ extended. extended ≡ self.now ++ plain_fields fields.now) }
         ensures memory { IfErr result (λ fault. fault ≡ Fault.Memory) }
     {
-        let mut list = copy_fields(alloc, self.as_slice())?;
+        let mut list = copy_list(alloc, self.as_slice())?;
         append_copies(alloc, &mut list, fields)?;
-        Fields::new(alloc, list)
+        Fields::owned(alloc, list)
     }
 
     /// Appends these fields, as `extend` does; where there are none yet, it shares their list and copies nothing.
@@ -176,13 +201,35 @@ impl Fields {
     }
 }
 
+// Equal fields of their own, in the same order: one field alone takes no block, as it lies in the list.
+fn copy_list(alloc: Global, fields: &[Field]) -> Result<SmallVec<Field, IN_PLACE>, Fault>
+    ensures fields { IfOk result (λ copies. plain_fields copies.items ≡ plain_fields fields.now) }
+    ensures memory { IfErr result (λ fault. fault ≡ Fault.Memory) }
+{
+    if let [field] = fields {
+        let copy = field.copy(alloc)?;
+        return Ok(SmallVec::from_buf(alloc, [copy]));
+    }
+    let copies = copy_fields(alloc, fields)?;
+    Ok(SmallVec::from_vec(copies))
+}
+
 // Equal fields of its own at the list's end. Where memory is refused, the list is as before.
-fn append_copies(alloc: Global, list: &mut Vec<Field>, fields: &[Field]) -> Result<(), Fault>
+fn append_copies(
+    alloc: Global,
+    list: &mut SmallVec<Field, IN_PLACE>,
+    fields: &[Field],
+) -> Result<(), Fault>
     ensures fields { OnOk result (plain_fields list.new.items ≡ plain_fields list.old.items ++ plain_fields fields.now) }
     ensures unchanged { OnErr result (list.new.items ≡ list.old.items) }
     ensures memory { IfErr result (λ fault. fault ≡ Fault.Memory) }
 {
-    let mut copies = copy_fields(alloc, fields)?;
+    if let [field] = fields {
+        let copy = field.copy(alloc)?;
+        list.push(copy)?;
+        return Ok(());
+    }
+    let mut copies = copy_list(alloc, fields)?;
     list.append(&mut copies)?;
     Ok(())
 }

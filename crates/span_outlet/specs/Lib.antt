@@ -2,6 +2,7 @@ pub mod Request
 pub mod Batch
 pub mod KnownEvent
 pub mod KnownSpan
+pub mod KnownRelease
 pub mod Outlet
 pub mod Lines
 pub mod Kept

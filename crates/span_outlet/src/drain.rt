@@ -67,7 +67,7 @@ impl<F: Drop> Drain<Formatters<F>> {
     pub fn new(alloc: Global, tap: Tap, formatting: Formatting<F>) -> Drain<Formatters<F>>
         ensures { result ≡ record { name = tap; forms = formatting.forms; taken = []; lines = []; missed = 0 } }
     {
-        let Tap { consumer } = tap;
+        let Tap { consumer, back: _ } = tap;
         let Formatting { forms, formatters } = formatting;
         Drain {
             consumer,

@@ -2,6 +2,7 @@
 ghost use Rattle.std.specs.Prelude.{◌≡◌, ◌-◌, ◌^◌, ◌<◌, ◌++◌, ◌∷◌, [], true, None, Ok, IsOk, false, IfSome, map, length};
 ghost use Rattle.span_outlet.specs.Batch.{plain_batch};
 ghost use Rattle.span_outlet.specs.KnownEvent.{batch_of_known};
+ghost use Rattle.span_outlet.specs.KnownRelease.{batch_of_known_release};
 ghost use Rattle.span_outlet.specs.KnownSpan.{batch_of_known_span};
 ghost use Rattle.span_outlet.specs.Lines.{plain_line};
 ghost use Rattle.span_outlet.specs.Kept.{GainsLines, numbered_in};
@@ -10,6 +11,7 @@ ghost use Rattle.span_outlet.specs.Posted.{plain_posted};
 
 use crate::batch::Batch;
 use crate::known_event::KnownEvent;
+use crate::known_release::KnownRelease;
 use crate::known_span::KnownSpan;
 use crate::line::Line;
 use crate::note_lines::{NoteLines, recycle};
@@ -176,6 +178,22 @@ impl<V: Say> Outlet for Latest<V> {
             [] self.old.missed self.new.lines self.new.missed }
     {
         self.tell(Posted::of_span(span, notes));
+        Ok(())
+    }
+
+    /// The lines are those of these notes, as in `put_event`.
+    fn put_release(&mut self, release: KnownRelease, notes: Vec<Note>) -> Result<(), Vec<Note>>
+        requires ready { self.old.ready ≡ true }
+        requires countable { length self.old.sent < 2 ^ 64 - 1 }
+        ensures taken { IsOk result }
+        ensures sent { self.new.sent ≡ self.old.sent ++ batch_of_known_release release notes.items ∷ [] }
+        ensures forms { self.new.forms ≡ self.old.forms }
+        ensures ready { self.new.ready ≡ false }
+        ensures told { GainsLines self.old.forms
+            (numbered_in (length self.old.sent) (batch_of_known_release release notes.items))
+            [] self.old.missed self.new.lines self.new.missed }
+    {
+        self.tell(Posted::of_release(release, notes));
         Ok(())
     }
 

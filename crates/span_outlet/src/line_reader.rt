@@ -12,20 +12,25 @@ ghost use Rattle.span_outlet.specs.inside.Reading.{reader_view, HaveNotes};
 use crate::given_out::GivenOut;
 use crate::line::Line;
 use crate::note_lines::{NoteLines, keep_buffer};
+use crate::returning::{Returning, give_back};
 use crate::ring::{Consuming, Ring, Tap};
 use span_known::KnownValue;
 use span_layers::{Formatters, Formatting, Note, Say};
 use std::alloc::Global;
 use std::marker::Model;
+use std::mem;
 
 /// Takes the batches out of a ring, and gives out the lines of their notes, each once and in order.
 ///
 /// It keeps no line that it gave out, which contracts alone know, and takes a batch only where no line waits. So it
-/// keeps at most the lines and the notes of one batch, and buffers of lines that it skipped or took back. It takes no
-/// lock, so it may run beside the core, in a thread of its own. Notes are missed as by a `Drain`. `V` makes the texts.
+/// keeps at most the lines and the notes of one batch, and buffers of lines that it skipped or took back; notes that were
+/// told go back to the ring, if their list is small. It takes no lock, so it may run beside the core, in a thread of its
+/// own. Notes are missed as by a `Drain`. `V` makes the texts.
 #[derive(Drop)]
 pub struct LineReader<V = Formatters> {
     consumer: Consuming,
+    // Lists of notes that were told go back through it.
+    back: Returning,
     // How often it looked into the ring for batches. Stays at its greatest value.
     looks: u64,
     taken: u64,
@@ -73,9 +78,10 @@ fn look(consumer: &mut Consuming, looks: &mut u64) -> usize
 }
 
 // Takes the batches that are known to stand in the ring, one by one, and tells their notes, until there is a line. The
-// notes of the last one are kept.
+// notes of the last one are kept, and those before them are given back.
 fn take_until_line<V: Say>(
     consumer: &mut Consuming,
+    back: &mut Returning,
     taken: &mut u64,
     note_lines: &mut NoteLines,
     notes: &mut Vec<Note>,
@@ -101,7 +107,8 @@ fn take_until_line<V: Say>(
     ensures none_left { note_lines.new.lines.items ≡ [] → known_items consumer.new ≡ [] }
 {
     for _ in 0..standing {
-        *notes = note_lines.take_first(formatters, consumer, taken);
+        let told = mem::replace(notes, note_lines.take_first(formatters, consumer, taken));
+        give_back(back, told);
         if !note_lines.lines.is_empty() {
             return;
         }
@@ -121,10 +128,11 @@ impl<F: Drop> LineReader<Formatters<F>> {
           missed = 0;
         } }
     {
-        let Tap { consumer } = tap;
+        let Tap { consumer, back } = tap;
         let Formatting { forms, formatters } = formatting;
         LineReader {
             consumer,
+            back,
             looks: 0,
             taken: 0,
             note_lines: NoteLines {
@@ -157,6 +165,7 @@ impl<V: Say> LineReader<V> {
     {
         let LineReader {
             consumer,
+            back,
             looks,
             taken,
             note_lines,
@@ -168,7 +177,15 @@ impl<V: Say> LineReader<V> {
             return true;
         }
         let standing = look(consumer, looks);
-        take_until_line(consumer, taken, note_lines, notes, &*formatters, standing);
+        take_until_line(
+            consumer,
+            back,
+            taken,
+            note_lines,
+            notes,
+            &*formatters,
+            standing,
+        );
         note_lines.lines.reverse();
         !note_lines.lines.is_empty()
     }
@@ -193,6 +210,7 @@ impl<V: Say> LineReader<V> {
     {
         let LineReader {
             consumer,
+            back,
             looks,
             taken,
             note_lines,
@@ -205,7 +223,15 @@ impl<V: Say> LineReader<V> {
         }
         *looks = looks.saturating_add(1);
         let standing = ring.look_beside(consumer);
-        take_until_line(consumer, taken, note_lines, notes, &*formatters, standing);
+        take_until_line(
+            consumer,
+            back,
+            taken,
+            note_lines,
+            notes,
+            &*formatters,
+            standing,
+        );
         note_lines.lines.reverse();
         !note_lines.lines.is_empty()
     }

@@ -2,11 +2,13 @@ ghost use Rattle.std.specs.Prelude.{◌≡◌, ◌++◌, ◌∷◌, [], ◌<◌,
 ghost use Rattle.span_layers.specs.declared.form.Form.{Form};
 ghost use Rattle.span_outlet.specs.Batch.{PlainBatch, plain_batch};
 ghost use Rattle.span_outlet.specs.KnownEvent.{batch_of_known};
+ghost use Rattle.span_outlet.specs.KnownRelease.{batch_of_known_release};
 ghost use Rattle.span_outlet.specs.KnownSpan.{batch_of_known_span};
 ghost use Rattle.span_outlet.specs.Outlet.{RingName, one_more};
 
 use crate::batch::Batch;
 use crate::known_event::KnownEvent;
+use crate::known_release::KnownRelease;
 use crate::known_span::KnownSpan;
 use span_layers::Note;
 use std::alloc::AllocError;
@@ -16,7 +18,8 @@ pub trait Outlet {
     /// The batches sent so far.
     ghost sent: { Self → List PlainBatch };
 
-    /// Whether the last `room` answered true, and nothing was sent since, by `put`, `put_event` or `put_span`.
+    /// Whether the last `room` answered true, and nothing was sent since, by `put`, `put_event`, `put_span` or
+    /// `put_release`.
     ghost ready: { Self → Bool };
 
     /// How often `room` answered false. An outlet stores it as a `u64`, which stays at its greatest value.
@@ -80,6 +83,22 @@ pub trait Outlet {
         ensures back { IfErr result (λ back. back ≡ notes) }
     {
         let _ = span;
+        Err(notes)
+    }
+
+    /// Sends the batch of a handle given back, as `put_event` sends that of an event.
+    fn put_release(&mut self, release: KnownRelease, notes: Vec<Note>) -> Result<(), Vec<Note>>
+        requires ready { ready self.old ≡ true }
+        requires countable { length (sent self.old) < 2 ^ 64 - 1 }
+        ensures sent { OnOk result (sent self.new ≡ sent self.old ++ batch_of_known_release release notes.items ∷ []) }
+        ensures ready { OnOk result (ready self.new ≡ false) }
+        ensures forms { forms self.new ≡ forms self.old }
+        ensures name { name self.new ≡ name self.old }
+        ensures times_full { times_full self.new ≡ times_full self.old }
+        ensures same { OnErr result (self.new ≡ self.old) }
+        ensures back { IfErr result (λ back. back ≡ notes) }
+    {
+        let _ = release;
         Err(notes)
     }
 

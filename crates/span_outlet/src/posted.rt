@@ -2,11 +2,13 @@
 ghost use Rattle.std.specs.Prelude.{◌≡◌};
 ghost use Rattle.span_outlet.specs.Batch.{plain_batch};
 ghost use Rattle.span_outlet.specs.KnownEvent.{batch_of_known};
+ghost use Rattle.span_outlet.specs.KnownRelease.{batch_of_known_release};
 ghost use Rattle.span_outlet.specs.KnownSpan.{batch_of_known_span};
 ghost use Rattle.span_outlet.specs.Posted.{plain_posted};
 
 use crate::batch::{Batch, Call, Reply};
 use crate::known_event::KnownEvent;
+use crate::known_release::KnownRelease;
 use crate::known_span::KnownSpan;
 use span_known::KnownValue;
 use span_layers::Note;
@@ -17,6 +19,7 @@ pub(crate) enum Said {
     Call(KnownValue<Call>, KnownValue<Reply>),
     Event(KnownEvent),
     Span(KnownSpan),
+    Release(KnownRelease),
 }
 
 /// A batch of which the notes alone are kept. Its call and its reply are known to clauses.
@@ -58,6 +61,17 @@ impl Posted {
     {
         Posted {
             said: KnownValue::of(&Said::Span(span)),
+            notes,
+        }
+    }
+
+    // The batch of a handle given back.
+    #[inline(always)]
+    pub(crate) fn of_release(release: KnownRelease, notes: Vec<Note>) -> Posted
+        ensures { plain_posted result ≡ batch_of_known_release release notes.items }
+    {
+        Posted {
+            said: KnownValue::of(&Said::Release(release)),
             notes,
         }
     }

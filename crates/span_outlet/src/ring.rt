@@ -1,8 +1,9 @@
 //! The ring through which batches leave the thread of the core.
-ghost use Rattle.std.specs.Prelude.{◌≡◌, ◌+◌, ◌-◌, ◌^◌, ◌<◌, ◌≤◌, ◌++◌, ◌∷◌, [], true, false, Some, IfOk, IfErr, IsOk, IsOkAnd, map, length, if◌then◌else◌, IsTrue, ◌↔◌};
+ghost use Rattle.std.specs.Prelude.{◌≡◌, ◌+◌, ◌-◌, ◌^◌, ◌<◌, ◌≤◌, ◌++◌, ◌∷◌, [], true, false, Some, IfOk, IfErr, IfSome, IsOk, IsOkAnd, map, length, if◌then◌else◌, IsTrue, ◌↔◌};
 ghost use Rattle.rtrb.specs.Ring.{received, known_items, ConsumerLooked};
 ghost use Rattle.span_outlet.specs.Batch.{plain_batch};
 ghost use Rattle.span_outlet.specs.KnownEvent.{batch_of_known};
+ghost use Rattle.span_outlet.specs.KnownRelease.{batch_of_known_release};
 ghost use Rattle.span_outlet.specs.KnownSpan.{batch_of_known_span};
 ghost use Rattle.span_outlet.specs.Outlet.{one_more};
 ghost use Rattle.span_outlet.specs.inside.Ends.{name_of_consumer};
@@ -10,9 +11,11 @@ ghost use Rattle.span_outlet.specs.Posted.{plain_posted};
 
 use crate::batch::Batch;
 use crate::known_event::KnownEvent;
+use crate::known_release::KnownRelease;
 use crate::known_span::KnownSpan;
 use crate::outlet::Outlet;
 use crate::posted::Posted;
+use crate::returning::{MOST_LISTS, Returned, Returning, take_returned};
 use rtrb::{Consumer, Producer, Protocol, RingBuffer};
 use span_id::{Checked, Fault};
 use span_layers::Note;
@@ -38,6 +41,10 @@ pub(crate) type Consuming = Consumer<Posted, Global, Few>;
 #[derive(Drop)]
 pub struct Ring {
     producer: Producer<Posted, Global, Few>,
+    // Lists of notes that were told and sent back.
+    back: Returned,
+    // Whether a list with memory was put in: before that none can be on its way back.
+    lent: bool,
     ready: bool,
     // Stays at its greatest value.
     times_full: u64,
@@ -67,6 +74,7 @@ impl Model for Ring {
 #[derive(Drop)]
 pub struct Tap {
     pub(crate) consumer: Consuming,
+    pub(crate) back: Returning,
 }
 
 impl Model for Tap {
@@ -98,12 +106,19 @@ impl Ring {
     {
         let places = limits.limits().ring as usize;
         let (producer, consumer) = RingBuffer::with_protocol::<Global, Few>(alloc, places)?;
+        let (returning, returned) = RingBuffer::new(alloc, MOST_LISTS)?;
         let ring = Ring {
             producer,
+            back: returned,
+            lent: false,
             ready: false,
             times_full: 0,
         };
-        Ok((ring, Tap { consumer }))
+        let tap = Tap {
+            consumer,
+            back: returning,
+        };
+        Ok((ring, tap))
     }
 
     /// How often there was no place when `room` was asked. It stays at its greatest value.
@@ -123,6 +138,24 @@ impl Ring {
         ensures fifo { map plain_posted (received consumer.new ++ known_items consumer.new) ≡ self.old.sent }
     {
         consumer.slots_beside(&mut self.producer)
+    }
+
+    // The batch takes one of the free places.
+    #[inline(always)]
+    fn post(&mut self, batch: Posted)
+        requires ready { self.old.ready ≡ true }
+        requires countable { length self.old.sent < 2 ^ 64 - 1 }
+        ensures sent { self.new.sent ≡ self.old.sent ++ plain_posted batch ∷ [] }
+        ensures free { self.new.free + 1 ≡ self.old.free }
+        ensures ready { self.new.ready ≡ false }
+        ensures name { self.new.name ≡ self.old.name }
+        ensures times_full { self.new.times_full ≡ self.old.times_full }
+    {
+        self.ready = false;
+        if batch.notes.capacity() > 0 {
+            self.lent = true;
+        }
+        self.producer.push_reserved(batch);
     }
 }
 
@@ -166,8 +199,7 @@ impl Outlet for Ring {
         ensures name { self.new.name ≡ self.old.name }
         ensures times_full { self.new.times_full ≡ self.old.times_full }
     {
-        self.ready = false;
-        self.producer.push_reserved(Posted::of_batch(batch));
+        self.post(Posted::of_batch(batch));
     }
 
     /// The notes of the event take one of the free places.
@@ -182,8 +214,7 @@ impl Outlet for Ring {
         ensures name { self.new.name ≡ self.old.name }
         ensures times_full { self.new.times_full ≡ self.old.times_full }
     {
-        self.ready = false;
-        self.producer.push_reserved(Posted::of_event(event, notes));
+        self.post(Posted::of_event(event, notes));
         Ok(())
     }
 
@@ -199,9 +230,37 @@ impl Outlet for Ring {
         ensures name { self.new.name ≡ self.old.name }
         ensures times_full { self.new.times_full ≡ self.old.times_full }
     {
-        self.ready = false;
-        self.producer.push_reserved(Posted::of_span(span, notes));
+        self.post(Posted::of_span(span, notes));
         Ok(())
+    }
+
+    /// The notes of the call take one of the free places.
+    #[inline(always)]
+    fn put_release(&mut self, release: KnownRelease, notes: Vec<Note>) -> Result<(), Vec<Note>>
+        requires ready { self.old.ready ≡ true }
+        requires countable { length self.old.sent < 2 ^ 64 - 1 }
+        ensures taken { IsOk result }
+        ensures sent { self.new.sent ≡ self.old.sent ++ batch_of_known_release release notes.items ∷ [] }
+        ensures free { self.new.free + 1 ≡ self.old.free }
+        ensures ready { self.new.ready ≡ false }
+        ensures name { self.new.name ≡ self.old.name }
+        ensures times_full { self.new.times_full ≡ self.old.times_full }
+    {
+        self.post(Posted::of_release(release, notes));
+        Ok(())
+    }
+
+    /// A list whose notes were told, if a reader sent one back.
+    // Inlined, a ring into which no list was put costs a branch.
+    #[inline(always)]
+    fn spare_notes(&mut self) -> Option<Vec<Note>>
+        ensures empty { IfSome result (λ list. list.items ≡ []) }
+        ensures same { self.new ≡ self.old }
+    {
+        if !self.lent {
+            return None;
+        }
+        take_returned(&mut self.back)
     }
 
     /// None is kept as it was sent.

@@ -3,6 +3,7 @@ pub use Rattle.span_outlet.specs.Request
 pub use Rattle.span_outlet.specs.Batch
 pub use Rattle.span_outlet.specs.KnownEvent
 pub use Rattle.span_outlet.specs.KnownSpan
+pub use Rattle.span_outlet.specs.KnownRelease
 pub use Rattle.span_outlet.specs.Outlet
 pub use Rattle.span_outlet.specs.Lines
 pub use Rattle.span_outlet.specs.Kept

@@ -41,8 +41,8 @@ pub use share::Share;
 pub use span_core::{Core, SpanDetails};
 pub use span_forest::Held;
 pub use span_outlet::{
-    Batch, Call, Drain, Kept, KnownEvent, KnownSpan, Latest, LayerLines, Line, LineReader, Outlet,
-    ParentOf, Reply, Ring, Step, Tap,
+    Batch, Call, Drain, Kept, KnownEvent, KnownRelease, KnownSpan, Latest, LayerLines, Line,
+    LineReader, Outlet, ParentOf, Reply, Ring, Step, Tap,
 };
 pub use span_seats::TableName;
 pub use worker::Worker;

@@ -1,6 +1,6 @@
-//! A meta and fields, copied, also to be shared and over earlier fields.
+//! A meta and fields, copied, also to be shared and over earlier fields, and fields that grow.
 
-use crate::answer::Answer;
+use crate::answer::{Answer, done};
 use crate::rows::Row;
 use crate::stage::Memory::{self, Taken, Untouched};
 use crate::stage::{Stage, TRIES};
@@ -19,6 +19,12 @@ enum Act {
     Field(usize),
     /// The fields, to be shared.
     Fields,
+    /// The first field, which is moved in to be shared.
+    One,
+    /// So many of the fields, behind those that grow.
+    More(usize),
+    /// Nothing: what grew so is told.
+    Grown,
     /// The fields, over some that have another owner, who keeps them.
     OverShared,
     /// Nothing: what that other owner has is told.
@@ -34,6 +40,15 @@ static FIELD: [Planned<'static, Act>; 3] = [
     ("copy", Taken, Act::Field(0)),
     ("copy", Taken, Act::Field(1)),
     ("copy to share", Taken, Act::Fields),
+];
+
+// The first field lies in the list itself, which takes a block for the second.
+static GROWING: [Planned<'static, Act>; 5] = [
+    ("one to share", Taken, Act::One),
+    ("one behind none", Taken, Act::More(1)),
+    ("one behind one", Taken, Act::More(1)),
+    ("two behind two", Taken, Act::More(2)),
+    ("what grew", Untouched, Act::Grown),
 ];
 
 static OVER_SHARED: [Planned<'static, Act>; 2] = [
@@ -68,13 +83,14 @@ static EARLIER: [Earlier; 3] = [
     },
 ];
 
-/// A meta, two fields, and some that have another owner.
+/// A meta, two fields, some that have another owner, and some that grow.
 #[derive(Drop)]
 struct Copied<'a> {
     alloc: Global,
     meta: &'a Meta,
     fields: &'a [Field],
     owned: &'a Fields,
+    grown: Fields,
 }
 
 /// Makes the row's copies, and tells what they are.
@@ -87,6 +103,7 @@ pub(crate) fn run<R: Print>(stage: &Stage<R>, alloc: Global, row: Row) -> Result
         meta: &meta,
         fields: fields.as_slice(),
         owned: &owned,
+        grown: Fields::none(),
     };
     copy(stage, alloc, row, &mut copied)
 }
@@ -99,7 +116,10 @@ fn copy<R: Print>(
 ) -> Result<(), Stop> {
     match row {
         Row::Meta => perform(stage, alloc, copied, &META),
-        Row::Field => perform(stage, alloc, copied, &FIELD),
+        Row::Field => {
+            perform(stage, alloc, copied, &FIELD)?;
+            perform(stage, alloc, copied, &GROWING)
+        }
         _ => {
             for earlier in &EARLIER {
                 copy_over(stage, alloc, copied.fields, earlier)?;
@@ -120,6 +140,15 @@ impl<'a> Subject<Act> for Copied<'a> {
                 None => Ok(Answer::Nothing),
             },
             Act::Fields => Fields::copy_of(alloc, self.fields).map(Answer::Fields),
+            Act::One => match self.fields.first() {
+                Some(field) => Fields::one(alloc, field.copy(alloc)?).map(Answer::Fields),
+                None => Ok(Answer::Nothing),
+            },
+            Act::More(most) => {
+                let (more, _) = self.fields.split_at(self.fields.len().min(*most));
+                done(self.grown.extend(alloc, more))
+            }
+            Act::Grown => self.grown.share().map(Answer::Fields),
             Act::OverShared => {
                 let these = self.owned.share()?;
                 these.copy_over(alloc, self.fields).map(Answer::Fields)
@@ -129,7 +158,8 @@ impl<'a> Subject<Act> for Copied<'a> {
     }
 
     fn look(&mut self, text: &mut String) -> Result<(), AllocError> {
-        write!(text, "{:?} {:?} {:?}", self.meta, self.fields, self.owned)
+        write!(text, "{:?} {:?} ", self.meta, self.fields)?;
+        write!(text, "{:?} {:?}", self.owned, self.grown)
     }
 }
 

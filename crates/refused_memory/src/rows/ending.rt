@@ -83,7 +83,12 @@ pub(crate) fn tell_end<R: Print>(stage: &Stage<R>, report: &Report, is_told: boo
 /// Tells lines, of which some may be missed where memory was refused.
 pub(crate) fn tell_lines<R: Print>(stage: &Stage<R>, lines: &[Line]) {
     for line in lines {
-        let text = shown(line.text.as_slice());
-        stage.wrote(println!(stage.rt; "+ {} {} {} {text}", line.batch, line.place, line.layer));
+        tell_line(stage, line);
     }
+}
+
+/// Tells a line that may be missed.
+pub(crate) fn tell_line<R: Print>(stage: &Stage<R>, line: &Line) {
+    let text = shown(line.text.as_slice());
+    stage.wrote(println!(stage.rt; "+ {} {} {} {text}", line.batch, line.place, line.layer));
 }

@@ -2,12 +2,16 @@
 ghost use Rattle.std.specs.Prelude.{◌≡◌, ◌≤◌, ◌+◌, [], true, OnOk, length};
 
 use crate::rows::ending::tell_lines;
+use crate::rows::reader::read_lines;
 use crate::stage::{Memory, Stage, TRIES};
 use crate::stop::Stop;
 use crate::texts::{meta_of, note_of, plain_formatting};
 use span_id::{Id, Level, Limits};
 use span_layers::{Formatting, Kind, Note, Say};
-use span_outlet::{Batch, Call, Kept, KnownEvent, Latest, Line, Outlet, ParentOf, Reply, Ring};
+use span_outlet::{
+    Batch, Call, Kept, KnownEvent, KnownRelease, KnownSpan, Latest, Line, Outlet, ParentOf, Reply,
+    Ring,
+};
 use std::alloc::Global;
 
 /// An outlet that makes the lines itself.
@@ -65,16 +69,20 @@ fn put_in_ring<R: Print>(stage: &Stage<R>, alloc: Global) -> Result<(), Stop> {
     stage.begin(Memory::Taken);
     let ends = Ring::pair(alloc, &checked);
     stage.over();
-    match ends {
-        Ok((mut ring, _tap)) => put_in_made_ring(stage, alloc, &mut ring),
-        Err(_) => Err(Stop::Memory),
-    }
+    let Ok((mut ring, tap)) = ends else {
+        return Err(Stop::Memory);
+    };
+    put_in_made_ring(stage, alloc, &mut ring)?;
+    read_lines(stage, alloc, tap)
 }
 
 fn put_in_made_ring<R: Print>(stage: &Stage<R>, alloc: Global, ring: &mut Ring) -> Result<(), Stop>
     requires { ring.old.sent ≡ [] }
 {
     put(stage, alloc, Memory::Untouched, ring)?;
+    put_known(stage, alloc, Memory::Untouched, ring, Known::Event(1))?;
+    put_known(stage, alloc, Memory::Untouched, ring, Known::Span)?;
+    put_known(stage, alloc, Memory::Untouched, ring, Known::Release)?;
     stage.wrote(println!(stage.rt; "ring: times full {}", ring.times_full()));
     Ok(())
 }
@@ -94,7 +102,33 @@ fn put_in_kept<V: Say, R: Print>(
     Ok(())
 }
 
-/// Puts a batch with one note and three events into a `Latest`, and tells what it shows.
+/// What an outlet is told that is known and not kept: an event of so many notes, a span that was made, or a handle that
+/// was given back, both with one note.
+#[derive(Clone, Copy)]
+enum Known {
+    Event(u32),
+    Span,
+    Release,
+}
+
+impl Known {
+    fn kind(self) -> Kind {
+        match self {
+            Known::Event(_) => Kind::OnEvent,
+            Known::Span => Kind::OnNew,
+            Known::Release => Kind::OnClose,
+        }
+    }
+
+    fn layers(self) -> u32 {
+        match self {
+            Known::Event(layers) => layers,
+            Known::Span | Known::Release => 1,
+        }
+    }
+}
+
+/// Puts a batch with one note, three events, a span and a release into a `Latest`, and tells what it shows.
 pub(crate) fn run_latest<R: Print>(stage: &Stage<R>, alloc: Global) -> Result<(), Stop> {
     let formatting = plain_formatting(alloc)?;
     stage.begin(Memory::Untouched);
@@ -113,50 +147,60 @@ fn put_in_latest<V: Say, R: Print>(
     let before = latest.counted();
     put(stage, alloc, Memory::Untouched, latest)?;
     tell_last(stage, latest, before);
-    tell_event(stage, alloc, latest, 1)?;
-    tell_event(stage, alloc, latest, 1)?;
-    tell_event(stage, alloc, latest, 2)?;
+    // The second one's text is copied from the first's.
+    tell_known(stage, alloc, latest, Known::Event(1))?;
+    tell_known(stage, alloc, latest, Known::Event(1))?;
+    tell_known(stage, alloc, latest, Known::Event(2))?;
+    tell_known(stage, alloc, latest, Known::Span)?;
+    tell_known(stage, alloc, latest, Known::Release)?;
     tell_spare(stage, latest);
     Ok(())
 }
 
-// Tells so many layers an event by a `Latest`, which always has room. The second one's text is copied from the first's.
-fn tell_event<V: Say, R: Print>(
+// Puts what is known into a `Latest`, which may be refused memory: then notes are missed.
+fn tell_known<V: Say, R: Print>(
     stage: &Stage<R>,
     alloc: Global,
     latest: &mut Latest<V>,
-    layers: u32,
+    known: Known,
 ) -> Result<(), Stop>
-    requires { length latest.old.sent ≤ 3 }
+    requires { length latest.old.sent ≤ 5 }
     ensures { length latest.new.sent ≤ length latest.old.sent + 1 }
 {
     let before = latest.counted();
-    room(stage, Memory::Untouched, latest)?;
-    put_event(stage, alloc, latest, layers)?;
+    put_known(stage, alloc, Memory::Taken, latest, known)?;
     tell_last(stage, latest, before);
     Ok(())
 }
 
-// Puts an event of so many notes, where there is room. It may be refused memory, and notes are missed then.
-fn put_event<V: Say, R: Print>(
+// Puts what is known where there is room.
+fn put_known<O: Outlet, R: Print>(
     stage: &Stage<R>,
     alloc: Global,
-    latest: &mut Latest<V>,
-    layers: u32,
+    memory: Memory,
+    outlet: &mut O,
+    known: Known,
 ) -> Result<(), Stop>
-    requires ready { latest.old.ready ≡ true }
-    requires few { length latest.old.sent ≤ 3 }
-    ensures { length latest.new.sent ≤ length latest.old.sent + 1 }
+    requires few { length (O.sent outlet.old) ≤ 5 }
+    ensures { length (O.sent outlet.new) ≤ length (O.sent outlet.old) + 1 }
 {
+    room(stage, Memory::Untouched, outlet)?;
     let meta = meta_of(alloc, "event", Level::Warn)?;
-    let notes = notes(alloc, Kind::OnEvent, layers)?;
-    stage.begin(Memory::Taken);
-    let event = KnownEvent::new(0, &meta, "x\ny", &[], ParentOf::Current);
-    let put = latest.put_event(event, notes);
+    let notes = notes(alloc, known.kind(), known.layers())?;
+    let id = Id::pack(0, 0);
+    stage.begin(memory);
+    let put = match known {
+        Known::Event(_) => {
+            let event = KnownEvent::new(0, &meta, "x\ny", &[], ParentOf::Current);
+            outlet.put_event(event, notes)
+        }
+        Known::Span => outlet.put_span(KnownSpan::new(0, id, &meta, &[], None), notes),
+        Known::Release => outlet.put_release(KnownRelease::new(0, id, &[]), notes),
+    };
     stage.over();
     match put {
         Ok(()) => Ok(()),
-        Err(_) => Err(stage.refused("put event")),
+        Err(_) => Err(stage.refused("put known")),
     }
 }
 

@@ -1,6 +1,7 @@
 //! The order of levels, sets of layers, and fields that grow.
 use crate::tests::compare::{crosses_threads, holds, same};
 use crate::tests::layers::fixtures::{are_fields, fields};
+use crate::values::{field, list};
 use span_id::{Bits, Fields, Level};
 use std::alloc::Global;
 use std::process::Abort;
@@ -56,4 +57,61 @@ fn fields_grow(rt: HostRuntime) {
     grow(&rt, alloc, &mut grown, &kept, &more);
     let shared = crosses_threads(grown.share().expect(&rt, "memory"));
     are_fields(&rt, &shared, &GROWN);
+}
+
+// One field lies in another place than several, wherever it comes from.
+#[test]
+fn a_lone_field_is_moved_in_or_copied(rt: HostRuntime) {
+    let alloc = rt.alloc();
+    let lone = field(alloc, "k", "1").expect(&rt, "memory");
+    let moved = Fields::one(alloc, lone).expect(&rt, "memory");
+    are_fields(&rt, &moved, &GROWN[..1]);
+    let mut roomy = list(alloc, &GROWN[..1]).expect(&rt, "memory");
+    roomy.reserve(8).expect(&rt, "memory");
+    let roomy = Fields::new(alloc, roomy).expect(&rt, "memory");
+    are_fields(&rt, &roomy, &GROWN[..1]);
+    let copied = fields(&rt, alloc, &GROWN[..1]);
+    holds(&rt, (copied == moved) & (copied == roomy), "equal");
+}
+
+// A list grows beside its other owner, who keeps it, and then this one grows alone.
+fn grow_by(
+    rt: &impl Abort,
+    alloc: Global,
+    had: &[(&str, &str)],
+    more: &[(&str, &str)],
+    want: &[(&str, &str)],
+) {
+    let more = fields(rt, alloc, more);
+    let mut grown = fields(rt, alloc, had);
+    let mut kept = grown.share().expect(rt, "memory");
+    grown.extend(alloc, more.as_slice()).expect(rt, "memory");
+    are_fields(rt, &grown, want);
+    are_fields(rt, &kept, had);
+    drop(grown);
+    kept.extend(alloc, more.as_slice()).expect(rt, "memory");
+    are_fields(rt, &kept, want);
+}
+
+// The copy is the same, whatever is written over.
+fn copy_over_others(rt: &impl Abort, alloc: Global, want: &[(&str, &str)]) {
+    let copied = list(alloc, want).expect(rt, "memory");
+    for len in 0..=GROWN.len() {
+        let (earlier, _) = GROWN.split_at(len);
+        let earlier = fields(rt, alloc, earlier);
+        let copy = earlier.copy_over(alloc, copied.as_slice());
+        are_fields(rt, &copy.expect(rt, "memory"), want);
+    }
+}
+
+#[test]
+fn lists_of_each_length_grow_and_are_copied_over(rt: HostRuntime) {
+    for len in 0..=GROWN.len() {
+        let (want, _) = GROWN.split_at(len);
+        for at in 0..=len {
+            let (had, more) = want.split_at(at);
+            grow_by(&rt, rt.alloc(), had, more, want);
+        }
+        copy_over_others(&rt, rt.alloc(), want);
+    }
 }

@@ -5,3 +5,4 @@ mod buffers;
 mod calls;
 mod drain;
 mod line_reader;
+mod returning;

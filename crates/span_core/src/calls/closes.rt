@@ -84,7 +84,8 @@ pub(crate) fn closes_on_release<'a>(
     ensures remembers { Remembers forest.now recent.new.paths }
     ensures memory { IfErr result (λ fault. fault ≡ Fault.Memory) }
 {
-    let ids = closing_of(forest, release, Holder::Handle)?;
+    let empty = recent.empty_ids();
+    let ids = closing_of(empty, forest, release, Holder::Handle)?;
     let notes = close_notes(recent, rules, forest, release, ids.as_slice())?;
     Ok(Closes { ids, notes })
 }
@@ -121,7 +122,7 @@ fn closing_on_exit(
     if stays {
         return Ok(Vec::new(alloc));
     }
-    closing_of(forest, exit, Holder::Entry)
+    closing_of(Vec::new(alloc), forest, exit, Holder::Entry)
 }
 
 // Gives the entry back, unless the span stays in the worker's stack; these are the spans that close. A span that stays
@@ -140,9 +141,15 @@ fn release_on_exit(forest: &mut Forest, stays: bool, id: Id, closing: &[Id])
     }
 }
 
-// The spans that close where a holder that is there is given back, child first.
+// The spans that close where a holder that is there is given back, child first, in a list that was empty.
 #[inline]
-fn closing_of(forest: &Forest, found: &FoundSpan<'_>, holder: Holder) -> Result<Vec<Id>, Fault>
+fn closing_of(
+    empty: Vec<Id>,
+    forest: &Forest,
+    found: &FoundSpan<'_>,
+    holder: Holder,
+) -> Result<Vec<Id>, Fault>
+    requires empty { empty.items ≡ [] }
     requires found { find forest.now.spans found.now.id ≡ Some (node_of found.now.span.now) }
     requires count { found.now.span.now.count ≡ reference_count forest.now.spans found.now.id }
     requires held { IsHeld forest.now.spans found.now.id holder }
@@ -151,5 +158,5 @@ fn closing_of(forest: &Forest, found: &FoundSpan<'_>, holder: Holder) -> Result<
     ensures memory { IfErr result (λ fault. fault ≡ Fault.Memory) }
 {
     closing_lists_are_chains(forest);
-    forest.closing_above(found.id, holder, found.span.count, found.span.parent)
+    forest.closing_above_in(empty, found.id, holder, found.span.count, found.span.parent)
 }

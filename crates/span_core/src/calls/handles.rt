@@ -1,11 +1,12 @@
 //! The calls on a handle that enter no stack: one more handle, fields appended, a handle given back.
-ghost use Rattle.std.specs.Prelude.{◌≡◌, ◌<◌, ◌↔◌, nat_lt, length, None, IsTrue, OnOk, OnErr, IfOk, IfErr};
+ghost use Rattle.std.specs.Prelude.{◌≡◌, ◌<◌, ◌-◌, ◌^◌, ◌↔◌, ◌++◌, ◌∷◌, [], true, nat_lt, map, length, None, IsTrue, OnOk, OnErr, IfOk, IfErr};
 ghost use Rattle.span_forest.specs.declared.span.Holder.TheVariants.{Handle};
 ghost use Rattle.span_forest.specs.Node.{with_fields};
 ghost use Rattle.span_forest.specs.Spans.{find, with_change};
 ghost use Rattle.span_forest.specs.Holders.{IsHeld};
 ghost use Rattle.span_forest.specs.Release.{closing_list};
 ghost use Rattle.span_id.specs.Meta.{plain_fields};
+ghost use Rattle.span_layers.specs.Note.{plain_note};
 ghost use Rattle.span_outlet.specs.Request.{clone_span, cloned, record_fields, recorded, try_close, released};
 ghost use Rattle.span_core.specs.inside.Given.{fields_given};
 ghost use Rattle.span_core.specs.Core.{IsDue, IsAccepted, IsRefused};
@@ -20,9 +21,10 @@ use crate::calls::room::ask;
 use crate::given::GivenFields;
 use crate::laws::{accepted_releases_close_what_nothing_holds, the_named_span_closes_first};
 use crate::notes::{Announced, FoundSpan, record_told};
+use crate::recent::Recent;
 use span_forest::{Forest, Holder};
 use span_id::{Fault, Field, Fields, Id};
-use span_outlet::{Batch, Call, Outlet, Reply};
+use span_outlet::{Batch, Call, KnownRelease, Outlet, Reply};
 
 impl<O: Outlet, A> Core<O, A> {
     /// One more handle of a span that has a handle. The number of the worker that calls needs to be below `workers`.
@@ -157,16 +159,12 @@ impl<O: Outlet, A> Core<O, A> {
         ask(&mut self.outlet, &mut self.recent.spare)?;
         let release = FoundSpan { worker, id, span };
         let closes = closes_on_release(&mut self.recent, &self.rules, &self.forest, &release)?;
-        let Closes { ids, notes } = closes;
-        give_back(&mut self.recent, &mut self.forest, id, ids.as_slice());
-        see(state, ids.as_slice());
+        let ids = closes.ids.as_slice();
+        give_back(&mut self.recent, &mut self.forest, id, ids);
+        see(state, ids);
         let closed = !ids.is_empty();
         self.calls += 1;
-        self.outlet.put(Batch {
-            call: Call::TryClose { worker, id },
-            reply: Reply::Released(ids),
-            notes,
-        });
+        put_release(&mut self.outlet, &mut self.recent, worker, id, closes);
         Ok(closed)
     }
 
@@ -198,4 +196,31 @@ fn append_fields(forest: &mut Forest, id: Id, fields: &Fields) -> Result<(), Fau
         return Err(Fault::Memory);
     };
     Ok(())
+}
+
+// Sends the batch of a handle given back: its notes alone, or the call and the list of what closed too where the outlet
+// gives them back. A list that isn't sent serves the next release.
+fn put_release<O: Outlet>(outlet: &mut O, recent: &mut Recent, worker: u32, id: Id, closes: Closes)
+    requires ready { O.ready outlet.old ≡ true }
+    requires countable { length (O.sent outlet.old) < 2 ^ 64 - 1 }
+    ensures sent { O.sent outlet.new ≡ O.sent outlet.old ++ (record {
+      request = try_close worker id;
+      answer = released closes.ids.items;
+      notes = map plain_note closes.notes.items;
+    }) ∷ [] }
+    ensures forms { O.forms outlet.new ≡ O.forms outlet.old }
+    ensures name { O.name outlet.new ≡ O.name outlet.old }
+    ensures times_full { O.times_full outlet.new ≡ O.times_full outlet.old }
+    ensures paths { recent.new.paths ≡ recent.old.paths }
+{
+    let Closes { ids, notes } = closes;
+    let known = KnownRelease::new(worker, id, ids.as_slice());
+    match outlet.put_release(known, notes) {
+        Ok(()) => recent.take_ids(ids),
+        Err(notes) => outlet.put(Batch {
+            call: Call::TryClose { worker, id },
+            reply: Reply::Released(ids),
+            notes,
+        }),
+    }
 }

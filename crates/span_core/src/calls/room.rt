@@ -6,6 +6,8 @@ use span_layers::Note;
 use span_outlet::Outlet;
 
 // Asks for a place for one more batch. Where there is one, the outlet may give a list for its notes too.
+// Each call asks, and the compiler doesn't inline it by itself where the outlet gives lists back.
+#[inline(always)]
 pub(crate) fn ask<O: Outlet>(outlet: &mut O, spare: &mut Vec<Note>) -> Result<(), Fault>
     ensures sent { O.sent outlet.new ≡ O.sent outlet.old }
     ensures forms { O.forms outlet.new ≡ O.forms outlet.old }
@@ -24,6 +26,7 @@ pub(crate) fn ask<O: Outlet>(outlet: &mut O, spare: &mut Vec<Note>) -> Result<()
 }
 
 // Where the spare list has no memory, one that the outlet gives takes its place.
+#[inline(always)]
 fn refill<O: Outlet>(outlet: &mut O, spare: &mut Vec<Note>)
     ensures sent { O.sent outlet.new ≡ O.sent outlet.old }
     ensures forms { O.forms outlet.new ≡ O.forms outlet.old }

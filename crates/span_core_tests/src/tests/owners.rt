@@ -4,11 +4,11 @@ use crate::tests::acts::{Act, perform};
 use crate::tests::compare::{holds, same};
 use crate::tests::hooks::hooks;
 use crate::tests::on_a_ring::ringed;
-use span_component_tests::plans::{EVERYTHING, add};
+use span_component_tests::plans::{EVERYTHING, Plan, Wanted, add};
 use span_component_tests::watch::{Noting, Refused, Watch};
 use span_core::Core;
 use span_id::{Level, Limits};
-use span_layers::Layers;
+use span_layers::{Form, Layers};
 use span_outlet::{Drain, Ring};
 use std::alloc::Global;
 use std::process::Abort;
@@ -21,12 +21,17 @@ const LIMITS: Limits = Limits {
     ring: 4,
 };
 
-// A core over a ring with so many layers, whose closures do what the watch says, and the ring's drain.
-fn opened(rt: &impl Abort, alloc: Global, watch: &Watch, count: usize) -> (Core<Ring>, Drain) {
+// A core over a ring with these layers, whose closures do what the watch says, and the ring's drain.
+fn opened(
+    rt: &impl Abort,
+    alloc: Global,
+    watch: &Watch,
+    plans: &[Plan<'_>],
+) -> (Core<Ring>, Drain) {
     let mut layers = Layers::new(alloc);
-    for _ in 0..count {
+    for plan in plans {
         let hooks = hooks(rt, alloc, watch);
-        add(alloc, &mut layers, &EVERYTHING, hooks).expect(rt, "a layer");
+        add(alloc, &mut layers, plan, hooks).expect(rt, "a layer");
     }
     ringed(rt, alloc, &LIMITS, layers)
 }
@@ -70,10 +75,25 @@ static OWNERS_OF_TWO: [(Act<'static>, u64); 5] = [
     (Act::Close(1), 2),
 ];
 
-// With so many layers these acts' paths have so many owners.
-fn have_owners(rt: &impl Abort, alloc: Global, layers: usize, owners: &[(Act<'static>, u64)]) {
+// Two layers that are told of other kinds.
+static OTHER_KINDS: [Plan<'static>; 2] = [
+    (Form::Compact, Wanted::NewAndClose, "", Level::Trace),
+    (Form::Compact, Wanted::EnterAndExit, "", Level::Trace),
+];
+
+// What the first is told of the new span, the second shares when it is entered.
+static OWNERS_OF_OTHER_KINDS: [(Act<'static>, u64); 5] = [
+    (Act::New("a"), 2),
+    (Act::Enter(1), 2),
+    (HI, 3),
+    (Act::Exit(1), 2),
+    (Act::Close(1), 1),
+];
+
+// With these layers the paths of these acts have so many owners.
+fn have_owners(rt: &impl Abort, alloc: Global, plans: &[Plan<'_>], owners: &[(Act<'static>, u64)]) {
     let watch = Watch::new(alloc, Noting::Owners, Refused::None).expect(rt, "memory");
-    let (mut core, mut drain) = opened(rt, alloc, &watch, layers);
+    let (mut core, mut drain) = opened(rt, alloc, &watch, plans);
     for (act, owners) in owners {
         let found = noted_at(rt, alloc, &mut core, &mut drain, &watch, act);
         same(rt, found, *owners, *owners);
@@ -82,8 +102,9 @@ fn have_owners(rt: &impl Abort, alloc: Global, layers: usize, owners: &[(Act<'st
 
 #[test]
 fn a_path_is_given_up_with_its_span(rt: HostRuntime) {
-    have_owners(&rt, rt.alloc(), 1, &OWNERS);
-    have_owners(&rt, rt.alloc(), 2, &OWNERS_OF_TWO);
+    have_owners(&rt, rt.alloc(), &[EVERYTHING], &OWNERS);
+    have_owners(&rt, rt.alloc(), &[EVERYTHING, EVERYTHING], &OWNERS_OF_TWO);
+    have_owners(&rt, rt.alloc(), &OTHER_KINDS, &OWNERS_OF_OTHER_KINDS);
 }
 
 // The room of the value of an event whose one field has so many bytes.
@@ -105,7 +126,7 @@ fn room_of(
 fn an_earlier_events_memory_is_used_again(rt: HostRuntime) {
     let alloc = rt.alloc();
     let watch = Watch::new(alloc, Noting::Room, Refused::None).expect(&rt, "memory");
-    let (mut core, mut drain) = opened(&rt, alloc, &watch, 1);
+    let (mut core, mut drain) = opened(&rt, alloc, &watch, &[EVERYTHING]);
     let first = room_of(&rt, alloc, &mut core, &mut drain, &watch, 33);
     same(&rt, first, 33, "the first");
     for nth in 2..17u64 {

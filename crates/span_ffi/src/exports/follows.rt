@@ -20,9 +20,7 @@ fn follows_field(alloc: Global, followed: u64) -> Result<Fields, Fault>
     let mut digits = Buffer::new();
     let key = copy_text(alloc, "follows_from")?;
     let value = copy_text(alloc, digits.format(followed))?;
-    let mut list = Vec::new(alloc);
-    list.push(Field { key, value })?;
-    Fields::new(alloc, list)
+    Fields::one(alloc, Field { key, value })
 }
 
 fn follows_from(alloc: Global, core: &mut RingCore, worker: u32, id: u64, followed: u64) -> Status

@@ -4,8 +4,13 @@ use Rattle.std.specs.Cmp.{IsEquivalence, and_equiv, on_equiv}
 use Rattle.std.specs.Cmp.Lexicographic.{pointwise, bytes_decides, lists_equiv, nat_list_eq_equiv}
 use Rattle.std.specs.Hash.{Alike, same_Alike, on_Alike, and-Alike, items_Alike}
 use Rattle.std.specs.Hash as fed
+use Rattle.smallvec.specs.SmallVec.{SmallVec}
 use Rattle.span_id.specs.declared.meta.Field.{Field}
 use Rattle.span_id.specs.Meta.{KeyValue, plain_fields, is_same_pair, pair_input}
+
+-- the fields of a list, wherever they lie
+abbrev pub listed_fields : SmallVec Field → List Field
+listed_fields list = list.items
 
 -- the fields of a list that may be missing, where there are none
 abbrev pub fields_of : {L : Type 0} → (L → List Field) → Option L → List KeyValue

@@ -18,8 +18,8 @@ const MOST: usize = 4096;
 
 const LEFT: usize = 67;
 
-// The most notes for which a list that is kept has room.
-const NOTES: usize = 16;
+/// The most notes for which a list that is kept has room.
+pub(crate) const NOTES: usize = 16;
 
 // Makes the texts that `text` makes, with room for exactly so many bytes behind each, where the buffer is.
 #[derive(Drop)]
@@ -70,7 +70,8 @@ fn with_capacity(lines: &[Line], bytes: usize) -> usize {
         .count()
 }
 
-const JSON: &str =
+/// An event's text in JSON, without its message.
+pub(crate) const JSON: &str =
     r#"{"fields":[],"id":0,"kind":"event","level":"INFO","message":"","path":"-","worker":0}"#;
 
 // An event in JSON, whose text has so many bytes.
@@ -162,8 +163,8 @@ fn buffers_are_used_again(rt: HostRuntime) {
     }
 }
 
-// The formatting of a layer that has no closures and writes JSON.
-fn plain_formatting(rt: &impl Abort, alloc: Global) -> Formatting<ByForm> {
+/// The formatting of a layer that has no closures and writes JSON.
+pub(crate) fn plain_formatting(rt: &impl Abort, alloc: Global) -> Formatting<ByForm> {
     let mut layers = Layers::<ByRule, ByForm>::new(alloc);
     let style = Style {
         form: Form::Json,
@@ -178,8 +179,12 @@ fn plain_formatting(rt: &impl Abort, alloc: Global) -> Formatting<ByForm> {
     layers.split().1
 }
 
-// How much room the text of the line has that is read. The line is given back, or not.
-fn read<V: Say>(rt: &impl Abort, reader: &mut LineReader<V>, is_given_back: bool) -> usize {
+/// How much room the text of the line has that is read. The line is given back, or not.
+pub(crate) fn read<V: Say>(
+    rt: &impl Abort,
+    reader: &mut LineReader<V>,
+    is_given_back: bool,
+) -> usize {
     holds(rt, reader.fill(), "a line waits");
     let line = reader.next().expect(rt, "a line");
     let room = line.text.capacity();
@@ -207,27 +212,37 @@ fn a_line_given_back_is_written_anew(rt: HostRuntime) {
     has_its_room(&rt, rt.alloc(), MOST + 1, true, false);
 }
 
-// Sends a batch of one note, in a list with room for so many.
-fn send_in_a_list<O: Outlet>(rt: &impl Abort, alloc: Global, outlet: &mut O, room: usize)
+/// Sends a batch of one note, whose text has so many bytes, in a list with room for so many.
+pub(crate) fn send_in_a_list<O: Outlet>(
+    rt: &impl Abort,
+    alloc: Global,
+    outlet: &mut O,
+    room: usize,
+    bytes: usize,
+)
     requires { length (O.sent outlet.old) < 2 ^ 64 - 1 }
     ensures { length (O.sent outlet.new) ≤ length (O.sent outlet.old) + 1 }
 {
     let mut notes = Vec::with_capacity(alloc, room).expect(rt, "memory");
-    notes.push(event(rt, alloc, 90)).expect(rt, "memory");
+    notes.push(event(rt, alloc, bytes)).expect(rt, "memory");
     let sent = send(rt, outlet, batch_of(rt, notes));
     holds(rt, sent, "room for a batch");
 }
 
-// For how many notes the list that an outlet gives out has room.
-fn given<O: Outlet>(outlet: &mut O) -> Option<usize> {
-    outlet.spare_notes().map(|list| list.capacity())
+/// For how many notes the list that an outlet gives out has room. It is empty.
+pub(crate) fn given<O: Outlet>(rt: &impl Abort, outlet: &mut O) -> Option<usize>
+    ensures { O.sent outlet.new ≡ O.sent outlet.old }
+{
+    let list = outlet.spare_notes()?;
+    holds(rt, list.is_empty(), "an empty list");
+    Some(list.capacity())
 }
 
 // The list of the notes is given out once, where it has room for so many, and else not at all.
 fn gives_its_list(rt: &impl Abort, alloc: Global, room: usize, want: Option<usize>) {
     let mut latest = with_room(rt, alloc, 0, false);
-    send_in_a_list(rt, alloc, &mut latest, room);
-    let lists = [given(&mut latest), given(&mut latest)];
+    send_in_a_list(rt, alloc, &mut latest, room, 90);
+    let lists = [given(rt, &mut latest), given(rt, &mut latest)];
     same(rt, lists, [want, None], room);
 }
 

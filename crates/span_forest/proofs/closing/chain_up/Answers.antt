@@ -9,7 +9,7 @@ use Rattle.span_forest.proofs.closing.chain_up.Goals.{in-Some+in-Some-get+then-s
 
 pub up-init : goal.up-init
 up-init c =
-    Along_first c.args.slots.now.entries c.args.id c.args.holder c.push.new.self.items c.args.parent c.requires.settled c.requires.held c.requires.last c.requires.parent (rw c.new-closed.ensures.items at c.in_ok-push.ensures.items)
+    Along_first c.args.slots.now.entries c.args.id c.args.holder c.push.new.self.items c.args.parent c.requires.settled c.requires.held c.requires.last c.requires.parent (rw c.requires.empty at c.in_ok-push.ensures.items)
 
 pub unreachable-requires : goal.unreachable-requires
 unreachable-requires c =

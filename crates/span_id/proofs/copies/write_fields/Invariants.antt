@@ -4,6 +4,6 @@ use Rattle.span_id.proofs.copies.write_fields.Given as goal
 
 abbrev pub invariant-loop-index : goal.invariant-loop-index
 invariant-loop-index l = record {
-  written : plain_fields (take l.index l.place-items) ≡ plain_fields (take l.index l.fields);
-  as_many : length l.place-items ≡ length l.fields;
+  written : plain_fields (take l.index l.list) ≡ plain_fields (take l.index l.fields);
+  as_many : length l.list ≡ length l.fields;
 }

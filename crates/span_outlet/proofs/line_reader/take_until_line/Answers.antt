@@ -37,7 +37,7 @@ pub returns-then-not-is_empty-clause-notes : goal.returns-then-not-is_empty-clau
 returns-then-not-is_empty-clause-notes g c =
     let before = c.loop.invariant in
     let next = c.take_first.ensures.first in
-    of_last_batch _ _ _ _ next.batch _ _ _ _ _ _ c.take_first.ensures.forms before.nothing before.number next.moved next.brought next.gains
+    rw c.replace-told.ensures.after (of_last_batch _ _ _ _ next.batch _ _ _ _ _ _ c.take_first.ensures.forms before.nothing before.number next.moved next.brought next.gains)
 
 pub loop-preserved : goal.loop-preserved
 loop-preserved g c =

@@ -3,7 +3,7 @@ use Rattle.span_forest.specs.Holders.{IsHeld}
 use Rattle.span_forest.proofs.Along.{released_by}
 use Rattle.span_forest.specs.Forest.{ForestView}
 use Rattle.std.proofs.Common.{subst, sym}
-use Rattle.span_forest.proofs.forest.Forest.closing_above.Goals as goal
+use Rattle.span_forest.proofs.forest.Forest.closing_above_in.Goals as goal
 
 pub returns-clause-list : goal.returns-clause-list
 returns-clause-list c =
