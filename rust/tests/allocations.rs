@@ -131,7 +131,7 @@ fn a_round_takes_few_allocations() -> Result<(), Error> {
     let as_span = of_rounds(&registry, &mut drain, |registry| {
         registry.span_at(&site, Parent::Current, FIELDS)?.try_in_scope(|| ())
     })?;
-    assert_eq!((by_ids, at_callsite, as_span), (6, 3, 4));
+    assert_eq!((by_ids, at_callsite, as_span), (0, 0, 1));
     Ok(())
 }
 

@@ -7,7 +7,7 @@ ghost use Rattle.span_core.specs.inside.Given.{meta_given, fields_given, text_gi
 use crate::recent::Recent;
 use span_id::{Fault, Field, Fields, Meta, SharedMeta};
 use span_outlet::ParentOf;
-use span_recent::RecentMetas;
+use span_recent::{RecentMetas, SpareFields};
 use std::alloc::Global;
 use std::sync::ArcStr;
 
@@ -93,6 +93,18 @@ impl<'a> GivenFields<'a> {
     {
         match self {
             GivenFields::Lent(fields) => Fields::copy_of(alloc, fields),
+            GivenFields::Shared(fields) => fields.share(),
+            GivenFields::Owned(fields) => Ok(fields),
+        }
+    }
+
+    // The same for a new span: a copy is made in the memory of the fields of one that closed.
+    pub(crate) fn keep_of_new(self, spare: &mut SpareFields) -> Result<Fields, Fault>
+        ensures fields { IfOk result (λ kept. kept ≡ fields_given self.entry) }
+        ensures memory { IfErr result (λ fault. fault ≡ Fault.Memory) }
+    {
+        match self {
+            GivenFields::Lent(fields) => spare.copy(fields),
             GivenFields::Shared(fields) => fields.share(),
             GivenFields::Owned(fields) => Ok(fields),
         }

@@ -7,7 +7,7 @@ ghost use Rattle.span_core.specs.inside.Remembering.{Remembers};
 use crate::known_paths::KnownPaths;
 use span_id::{Fault, Field, Fields, Id};
 use span_layers::Note;
-use span_recent::{RecentFields, RecentMetas};
+use span_recent::{RecentFields, RecentMetas, SpareFields};
 use std::alloc::Global;
 use std::mem;
 
@@ -18,9 +18,9 @@ const MOST_LEFT: usize = 2;
 const MOST_IDS: usize = 64;
 
 /// The metas that were copied lately, to be shared where they come again, the fields of events that were copied lately,
-/// to be written over where nobody else has them, the paths that were told at spans that are open, and lists for the
-/// notes of a call to come and for the spans that it closes, which have no memory where there is none. The metas and the
-/// fields have less than 64 KiB together, whatever is told.
+/// to be written over where nobody else has them, as the fields of a span that closed are, the paths that were told at
+/// spans that are open, and lists for the notes of a call to come and for the spans that it closes, which have no memory
+/// where there is none. The metas and the fields have less than 64 KiB together, whatever is told.
 #[derive(Drop)]
 pub(crate) struct Recent {
     pub(crate) alloc: Global,
@@ -28,6 +28,7 @@ pub(crate) struct Recent {
     fields: RecentFields,
     pub(crate) paths: KnownPaths,
     pub(crate) spare: Vec<Note>,
+    pub(crate) spare_fields: SpareFields,
     ids: Vec<Id>,
     // How many entries of stacks were looked at in vain since the last event that was told in a deep one.
     pub(crate) in_vain: u64,
@@ -44,6 +45,7 @@ impl Recent {
             fields: RecentFields::none(alloc),
             paths: KnownPaths::none(alloc, shares),
             spare: Vec::new(alloc),
+            spare_fields: SpareFields::none(alloc),
             ids: Vec::new(alloc),
             in_vain: 0,
         }
@@ -60,6 +62,16 @@ impl Recent {
             self.fields.copy(fields)
         } else {
             Fields::copy_of(self.alloc, fields)
+        }
+    }
+
+    /// Keeps the memory of a closed span's fields for the next span, where the notes of later calls may share what a call
+    /// tells: else whoever keeps batches has the fields.
+    pub(crate) fn keep_fields(&mut self, fields: Fields)
+        ensures { self.new.paths ≡ self.old.paths }
+    {
+        if self.paths.shares {
+            self.spare_fields.keep(fields);
         }
     }
 

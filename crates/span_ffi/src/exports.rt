@@ -14,6 +14,7 @@ mod holding;
 mod notes;
 mod packing;
 mod queries;
+mod recalling;
 mod registry;
 mod spans;
 mod texts;

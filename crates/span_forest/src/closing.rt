@@ -1,5 +1,5 @@
-ghost use Rattle.std.specs.Prelude.{◌≡◌, ◌≤◌, [], Some, IfOk};
-ghost use Rattle.span_slots.specs.Table.{freed_with, without_entry};
+ghost use Rattle.std.specs.Prelude.{◌≡◌, ◌≢◌, ◌≤◌, [], Some, IfOk, IsSomeAnd};
+ghost use Rattle.span_slots.specs.Table.{find, freed_with, without_entry};
 ghost use Rattle.span_id.specs.Id.{slot_of};
 ghost use Rattle.span_forest.specs.Spans.{IsOpen, nodes_of, parent_of};
 ghost use Rattle.span_forest.specs.Count.{children, reference_count};
@@ -11,7 +11,7 @@ ghost use Rattle.span_forest.specs.inside.Chain.{without_all, Chain};
 
 use crate::holders::{drop_holder, lower};
 use crate::span::{Holder, Span};
-use span_id::Id;
+use span_id::{Fields, Id};
 use span_slots::Slots;
 use std::alloc::AllocError;
 
@@ -74,8 +74,9 @@ fn chain_up(
     Ok(closed)
 }
 
-// Takes one holder from a span, and closes what nothing holds any longer.
-pub(crate) fn let_go(slots: &mut Slots<Span>, id: Id, holder: Holder, closed: &[Id])
+// Takes one holder from a span, and closes what nothing holds any longer. The fields of the span itself come out where it
+// closes.
+pub(crate) fn let_go(slots: &mut Slots<Span>, id: Id, holder: Holder, closed: &[Id]) -> Fields
     requires settled { IsSettled slots.old.entries }
     requires held { IsHeld (nodes_of slots.old.entries) id holder }
     requires chain { Chain (without_holder (nodes_of slots.old.entries) id holder) (Some id) closed.now }
@@ -86,20 +87,23 @@ pub(crate) fn let_go(slots: &mut Slots<Span>, id: Id, holder: Holder, closed: &[
       entries = slots.new.entries;
       freed = freed_after slots.old.last_generation slots.old.given slots.old.freed closed.now;
     } }
+    ensures open { closed.now ≡ [] → result ≡ [] }
+    ensures fields { closed.now ≢ [] → IsSomeAnd (find (nodes_of slots.old.entries) id) (λ node. result ≡ node.fields) }
 {
     let Some((_, above)) = closed.split_first() else {
         drop_holder(slots, id, holder);
-        return;
+        return Fields::none();
     };
     // The holder goes with the span, so it isn't taken out first.
-    close_one(slots, id);
+    let fields = close_one(slots, id);
     for gone in above {
         close_one(slots, *gone);
     }
+    fields
 }
 
-// Closes a span that has no child, and takes it from its parent's count.
-fn close_one(slots: &mut Slots<Span>, id: Id)
+// Closes a span that has no child, and takes it from its parent's count. Its fields come out.
+fn close_one(slots: &mut Slots<Span>, id: Id) -> Fields
     requires forest { IsForest (nodes_of slots.old.entries) }
     requires counted { AreCounted slots.old.entries }
     requires open { IsOpen (nodes_of slots.old.entries) id }
@@ -110,11 +114,14 @@ fn close_one(slots: &mut Slots<Span>, id: Id)
       entries = slots.new.entries;
       freed = freed_with slots.old.last_generation slots.old.given slots.old.freed id;
     } }
+    ensures fields { IsSomeAnd (find (nodes_of slots.old.entries) id) (λ node. result ≡ node.fields) }
 {
     let Some(span) = slots.remove(id) else {
         unreachable!()
     };
-    if let Some(parent) = span.parent {
-        lower(slots, parent);
-    }
+    let Some(parent) = span.parent else {
+        return span.fields;
+    };
+    lower(slots, parent);
+    span.fields
 }

@@ -1,4 +1,4 @@
-ghost use Rattle.std.specs.Prelude.{◌≡◌, ℕ, ◌<◌, Some, None, IfSome, IfNone, IfOk, IfErr, OnOk, OnErr, IsTrue, ◌↔◌, ◌⊎◌, ◌++◌, ◌∷◌, length, [], map, string_bytes};
+ghost use Rattle.std.specs.Prelude.{◌≡◌, ◌≢◌, ℕ, ◌<◌, IsSomeAnd, Some, None, IfSome, IfNone, IfOk, IfErr, OnOk, OnErr, IsTrue, ◌↔◌, ◌⊎◌, ◌++◌, ◌∷◌, length, [], map, string_bytes};
 ghost use Rattle.span_id.specs.Id.{IsId};
 ghost use Rattle.span_id.specs.Bits.{has_bit};
 ghost use Rattle.span_slots.specs.Table.{IsIssued, find, all_ids};
@@ -336,9 +336,25 @@ impl Forest {
               (closing_list self.old.spans id holder);
         } }
     {
-        let_go(&mut self.slots, id, holder, closing);
+        self.release_for_fields(id, holder, closing);
+    }
+
+    /// Does what `release_closing` does, and gives the fields of the span itself, where it closes; else none.
+    pub fn release_for_fields(&mut self, id: Id, holder: Holder, closing: &[Id]) -> Fields
+        requires held { IsHeld self.old.spans id holder }
+        requires list { closing.now ≡ closing_list self.old.spans id holder }
+        ensures forest { self.new ≡ record self.old {
+          spans = spans_left self.old.spans id holder;
+          freed = freed_after self.old.last_generation self.old.given self.old.freed
+              (closing_list self.old.spans id holder);
+        } }
+        ensures open { closing.now ≡ [] → result ≡ [] }
+        ensures fields { closing.now ≢ [] → IsSomeAnd (find self.old.spans id) (λ node. result ≡ node.fields) }
+    {
+        let fields = let_go(&mut self.slots, id, holder, closing);
         self.total -= 1;
         self.handles -= handles_in(holder);
+        fields
     }
 
     /// Appends copies of the fields to those of a span, in their order. Where its list has another owner, that one

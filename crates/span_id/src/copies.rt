@@ -1,6 +1,6 @@
 //! Copies of texts and fields that a caller lent.
 ghost use Rattle.std.specs.Prelude.{◌≡◌, IfOk, IfErr, OnOk, length, string_bytes};
-ghost use Rattle.span_id.specs.Meta.{plain_fields};
+ghost use Rattle.span_id.specs.Meta.{key_value, plain_fields};
 
 use crate::fault::Fault;
 use crate::meta::Field;
@@ -43,6 +43,21 @@ pub(crate) fn write_fields(alloc: Global, list: &mut [Field], fields: &[Field]) 
         write_text(alloc, &mut place.key, &field.key)?;
         write_text(alloc, &mut place.value, &field.value)?;
     }
+    Ok(())
+}
+
+/// Writes a key and a value over those of a field. The only error is `Memory`, after which any texts may stand there.
+pub(crate) fn write_field(
+    alloc: Global,
+    field: &mut Field,
+    key: &str,
+    value: &str,
+) -> Result<(), Fault>
+    ensures field { OnOk result (key_value field.new ≡ (key.now, value.now)) }
+    ensures memory { IfErr result (λ fault. fault ≡ Fault.Memory) }
+{
+    write_text(alloc, &mut field.key, key)?;
+    write_text(alloc, &mut field.value, value)?;
     Ok(())
 }
 

@@ -2,7 +2,7 @@
 ghost use Rattle.std.specs.Prelude.{◌≡◌, [], ◌∷◌, ◌++◌, IfOk, IfErr, OnOk, OnErr, length, map, nat_eq};
 ghost use Rattle.span_id.specs.Meta.{key_value, plain_fields};
 
-use crate::copies::{copy_fields, write_fields};
+use crate::copies::{copy_fields, copy_text, write_field, write_fields};
 use crate::fault::Fault;
 use crate::meta::Field;
 use smallvec::SmallVec;
@@ -10,6 +10,7 @@ use std::alloc::Global;
 use std::fmt::{self, Debug, Formatter, Write};
 use std::hash::{Hash, Hasher};
 use std::marker::Model;
+use std::mem::size_of;
 use std::sync::Arc;
 
 // How many fields lie in the block that counts the owners. A list of one field, the commonest, takes no second block; one
@@ -112,6 +113,28 @@ impl Fields {
         Fields::copy_of(alloc, fields)
     }
 
+    /// This key and this value as a field of its own, in the memory of these fields, where they are one field too and have
+    /// no other owner; each text as `copy_over` copies it.
+    ///
+    /// The only error is `Memory`; these fields are dropped then.
+    pub fn one_over(self, alloc: Global, key: &str, value: &str) -> Result<Fields, Fault>
+        ensures field { IfOk result (λ fields. fields ≡ (key.now, value.now) ∷ []) }
+        ensures memory { IfErr result (λ fault. fault ≡ Fault.Memory) }
+    {
+        let mut these = self;
+        if let Some(list) = &mut these.shared {
+            if let Some(list) = Arc::get_mut(list) {
+                if let [field] = list.as_mut_slice() {
+                    write_field(alloc, field, key, value)?;
+                    return Ok(these);
+                }
+            }
+        }
+        let key = copy_text(alloc, key)?;
+        let value = copy_text(alloc, value)?;
+        Fields::one(alloc, Field { key, value })
+    }
+
     /// One more owner of the same list: nothing is copied. The only error is `Memory`, where one more can't be counted.
     pub fn share(&self) -> Result<Fields, Fault>
         ensures same { IfOk result (λ shared. shared ≡ self.now) }
@@ -141,6 +164,14 @@ impl Fields {
         ensures { result ≡ length self.now }
     {
         self.as_slice().len()
+    }
+
+    /// How many bytes of memory the list and its texts have room for, or the greatest number. Contracts see nothing of it.
+    pub fn bytes(&self) -> usize {
+        match &self.shared {
+            Some(list) => bytes_of(&**list),
+            None => 0,
+        }
     }
 
     /// Whether there are no fields.
@@ -199,6 +230,15 @@ impl Fields {
         }
         self.extend(alloc, more.as_slice())
     }
+}
+
+fn bytes_of(list: &SmallVec<Field, IN_PLACE>) -> usize {
+    let mut bytes = list.capacity().saturating_mul(size_of::<Field>());
+    for field in list.as_slice() {
+        let texts = field.key.capacity().saturating_add(field.value.capacity());
+        bytes = bytes.saturating_add(texts);
+    }
+    bytes
 }
 
 // Equal fields of their own, in the same order: one field alone takes no block, as it lies in the list.

@@ -11,8 +11,8 @@ pub(crate) const MOST_LISTS: usize = 64;
 // A list with room for more notes than this is freed.
 const MOST_NOTES: usize = 16;
 
-// So is one whose notes hold more bytes of text than this.
-const MOST_TEXT: usize = 1024;
+// So is one whose notes hold more bytes of texts and fields than this.
+const MOST_BYTES: usize = 2048;
 
 /// The end that a reader has.
 pub(crate) type Returning = Producer<Vec<Note>>;
@@ -35,13 +35,13 @@ pub(crate) fn give_back(back: &mut Returning, notes: Vec<Note>) {
 
 #[inline(never)]
 fn send_back(back: &mut Returning, notes: Vec<Note>) {
-    if notes.capacity() <= MOST_NOTES && bytes_of(notes.as_slice()) <= MOST_TEXT {
+    if notes.capacity() <= MOST_NOTES && bytes_of(notes.as_slice()) <= MOST_BYTES {
         // Without a place it comes out again, and is dropped.
         let _ = back.push(notes);
     }
 }
 
-// How many bytes of text the notes hold, or the greatest number.
+// How many bytes of texts and fields the notes hold, or the greatest number.
 fn bytes_of(notes: &[Note]) -> usize {
     let mut bytes: usize = 0;
     for note in notes {
@@ -49,10 +49,7 @@ fn bytes_of(notes: &[Note]) -> usize {
         if let Some((_, message)) = &note.event {
             bytes = bytes.saturating_add(message.len());
         }
-        for field in note.fields.as_slice() {
-            let room = field.key.capacity().saturating_add(field.value.capacity());
-            bytes = bytes.saturating_add(room);
-        }
+        bytes = bytes.saturating_add(note.fields.bytes());
     }
     bytes
 }

@@ -8,6 +8,8 @@
 mod fields;
 mod metas;
 mod place;
+mod spare;
 
 pub use fields::RecentFields;
 pub use metas::RecentMetas;
+pub use spare::SpareFields;

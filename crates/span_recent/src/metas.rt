@@ -3,7 +3,7 @@ ghost use Rattle.std.specs.Prelude.{◌≡◌, ◌<◌, IfOk, IfErr, IfSome};
 ghost use Rattle.span_id.specs.Meta.{plain_meta};
 
 use crate::place::{PLACES, place_of};
-use span_id::{Fault, Meta, SharedMeta};
+use span_id::{Fault, Level, Meta, SharedMeta, copy_text};
 use std::alloc::Global;
 
 // How many bytes both texts of a meta that is kept have together, at most: so what is kept takes little memory.
@@ -37,7 +37,7 @@ impl RecentMetas {
             return SharedMeta::copy_of(self.alloc, meta);
         }
         let at = place_of(meta.name.as_bytes());
-        if let Some(recent) = self.at(at, meta) {
+        if let Some(recent) = self.of_texts(at, meta.level, &meta.name, &meta.target) {
             return recent.share();
         }
         let copy = SharedMeta::copy_of(self.alloc, meta)?;
@@ -45,12 +45,44 @@ impl RecentMetas {
         Ok(copy)
     }
 
-    // What stands at a place, if it is equal to this meta.
-    fn at(&self, at: usize, meta: &Meta) -> Option<&SharedMeta>
-        ensures { IfSome result (λ recent. recent.now ≡ plain_meta meta.now) }
+    /// The meta of this level and these texts, as `share` gives it: one that was copied lately is found without a copy. The
+    /// only error is `Memory`.
+    pub fn share_texts(
+        &mut self,
+        level: Level,
+        name: &str,
+        target: &str,
+    ) -> Result<SharedMeta, Fault>
+        ensures meta { IfOk result (λ shared. shared ≡ record { name = name.now; target = target.now; level = level }) }
+        ensures memory { IfErr result (λ fault. fault ≡ Fault.Memory) }
+    {
+        let at = place_of(name.as_bytes());
+        if let Some(recent) = self.of_texts(at, level, name, target) {
+            return recent.share();
+        }
+        let name = copy_text(self.alloc, name)?;
+        let target = copy_text(self.alloc, target)?;
+        let meta = Meta {
+            name,
+            target,
+            level,
+        };
+        let is_kept = is_kept(&meta);
+        let copy = SharedMeta::new(self.alloc, meta)?;
+        if is_kept {
+            self.keep(at, &copy);
+        }
+        Ok(copy)
+    }
+
+    // What stands at a place, if it has this level and these texts.
+    fn of_texts(&self, at: usize, level: Level, name: &str, target: &str) -> Option<&SharedMeta>
+        ensures { IfSome result (λ recent.
+            recent.now ≡ record { name = name.now; target = target.now; level = level }) }
     {
         let recent = self.places.get(at)?.as_ref()?;
-        if recent.as_meta() == meta {
+        let meta = recent.as_meta();
+        if meta.level == level && meta.name.as_str() == name && meta.target.as_str() == target {
             Some(recent)
         } else {
             None

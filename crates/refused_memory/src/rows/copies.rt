@@ -21,12 +21,15 @@ enum Act {
     Fields,
     /// The first field, which is moved in to be shared.
     One,
+    /// A field, over none.
+    OneOver,
     /// So many of the fields, behind those that grow.
     More(usize),
     /// Nothing: what grew so is told.
     Grown,
-    /// The fields, over some that have another owner, who keeps them.
+    /// The fields, and a field, over some that have another owner, who keeps them.
     OverShared,
+    OneOverShared,
     /// Nothing: what that other owner has is told.
     TheirOwner,
 }
@@ -43,16 +46,18 @@ static FIELD: [Planned<'static, Act>; 3] = [
 ];
 
 // The first field lies in the list itself, which takes a block for the second.
-static GROWING: [Planned<'static, Act>; 5] = [
+static GROWING: [Planned<'static, Act>; 6] = [
     ("one to share", Taken, Act::One),
+    ("one over none", Taken, Act::OneOver),
     ("one behind none", Taken, Act::More(1)),
     ("one behind one", Taken, Act::More(1)),
     ("two behind two", Taken, Act::More(2)),
     ("what grew", Untouched, Act::Grown),
 ];
 
-static OVER_SHARED: [Planned<'static, Act>; 2] = [
+static OVER_SHARED: [Planned<'static, Act>; 3] = [
     ("copy over shared", Taken, Act::OverShared),
+    ("one over shared", Taken, Act::OneOverShared),
     ("their other owner", Untouched, Act::TheirOwner),
 ];
 
@@ -79,6 +84,25 @@ static EARLIER: [Earlier; 3] = [
     Earlier {
         name: "copy over fewer",
         pairs: &[("k", "3")],
+        memory: Taken,
+    },
+];
+
+// Earlier ones over which one field is written.
+static BEFORE_ONE: [Earlier; 3] = [
+    Earlier {
+        name: "one over shorter texts",
+        pairs: &[("", "")],
+        memory: Taken,
+    },
+    Earlier {
+        name: "one over longer texts",
+        pairs: &[("key", "one")],
+        memory: Untouched,
+    },
+    Earlier {
+        name: "one over two",
+        pairs: &[("k", "1"), ("k", "2")],
         memory: Taken,
     },
 ];
@@ -124,6 +148,10 @@ fn copy<R: Print>(
             for earlier in &EARLIER {
                 copy_over(stage, alloc, copied.fields, earlier)?;
             }
+            let (one, _) = copied.fields.split_at(copied.fields.len().min(1));
+            for earlier in &BEFORE_ONE {
+                copy_over(stage, alloc, one, earlier)?;
+            }
             perform(stage, alloc, copied, &OVER_SHARED)
         }
     }
@@ -144,6 +172,10 @@ impl<'a> Subject<Act> for Copied<'a> {
                 Some(field) => Fields::one(alloc, field.copy(alloc)?).map(Answer::Fields),
                 None => Ok(Answer::Nothing),
             },
+            Act::OneOver => {
+                let over = Fields::none().one_over(alloc, "k", "1");
+                over.map(Answer::Fields)
+            }
             Act::More(most) => {
                 let (more, _) = self.fields.split_at(self.fields.len().min(*most));
                 done(self.grown.extend(alloc, more))
@@ -152,6 +184,10 @@ impl<'a> Subject<Act> for Copied<'a> {
             Act::OverShared => {
                 let these = self.owned.share()?;
                 these.copy_over(alloc, self.fields).map(Answer::Fields)
+            }
+            Act::OneOverShared => {
+                let these = self.owned.share()?;
+                these.one_over(alloc, "k", "1").map(Answer::Fields)
             }
             Act::TheirOwner => self.owned.share().map(Answer::Fields),
         }
@@ -173,7 +209,10 @@ fn copy_over<R: Print>(
     for _ in 0..TRIES {
         let these = shared_fields_of(alloc, earlier.pairs)?;
         stage.begin(earlier.memory);
-        let copy = these.copy_over(alloc, fields);
+        let copy = match fields {
+            [one] => these.one_over(alloc, &one.key, &one.value),
+            _ => these.copy_over(alloc, fields),
+        };
         stage.over();
         if let Some(ended) = copied_over(stage, earlier, copy) {
             return ended;

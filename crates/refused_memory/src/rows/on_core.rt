@@ -16,13 +16,16 @@ use crate::stop::Stop;
 use crate::texts::{add_lines, add_numbers, add_span, add_stack};
 use crate::trial::{Planned, Subject, perform};
 use span_core::Core;
-use span_id::{Fault, Meta};
+use span_id::{Fault, Level, Meta};
 use span_layers::{Admit, Filters, Formatting};
 use span_outlet::{Kept, Outlet, ParentOf};
 use std::alloc::{AllocError, Global};
 
 pub(crate) enum Asked {
     Call(Act),
+    /// A field, and a meta, of texts.
+    OneField,
+    SharedMeta,
     Len,
     Total,
     Calls,
@@ -35,7 +38,10 @@ pub(crate) enum Asked {
 }
 
 // A span inside another, and one that is entered nine times. The third span gets the slot of the first.
-static PLAN: [Planned<'static, Asked>; 37] = [
+static PLAN: [Planned<'static, Asked>; 40] = [
+    ("a field", Taken, Asked::OneField),
+    ("a meta", Taken, Asked::SharedMeta),
+    ("a meta again", Taken, Asked::SharedMeta),
     ("new a", Taken, Call(Act::New(Called::A, Apart))),
     ("clone 1", Taken, Call(Act::Clone(One))),
     ("enter 1", Taken, Call(Act::Enter(One))),
@@ -125,6 +131,8 @@ impl<'n, O: Outlet + Lines + Drop, A: Admit> Subject<Asked> for OnCore<'n, O, A>
         let core = &self.core;
         Ok(match asked {
             Call(act) => return make(&mut self.core, self.given, act),
+            Asked::OneField => return self.core.one_field("k", "1").map(Answer::Fields),
+            Asked::SharedMeta => return shared_meta(&mut self.core),
             Asked::Len => Answer::Number(u64::from(core.len())),
             Asked::Total => Answer::Number(core.total()),
             Asked::Calls => Answer::Number(core.calls()),
@@ -180,6 +188,13 @@ fn make<O: Outlet, A: Admit>(
         }
         Act::Ask(question) => ask(core, question),
     }
+}
+
+fn shared_meta<O: Outlet, A: Admit>(core: &mut Core<O, A>) -> Result<Answer, Fault>
+    ensures { core.new.limits ≡ core.old.limits }
+{
+    core.shared_meta(Level::Info, "c", "app")
+        .map(Answer::SharedMeta)
 }
 
 fn new_span<O: Outlet, A: Admit>(

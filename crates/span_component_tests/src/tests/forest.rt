@@ -1,11 +1,11 @@
 //! Each call of a forest with what it answers where memory is there, and who owns fields.
 ghost use Rattle.std.specs.Prelude.{◌≡◌};
 
-use crate::tests::compare::{id, same};
+use crate::tests::compare::{holds, id, same};
 use crate::tests::layers::fixtures::{are_fields, fields};
 use crate::values::meta;
 use span_forest::Holder::{Entry, Handle};
-use span_forest::{Forest, Held, PathText};
+use span_forest::{Forest, Held, Holder, PathText};
 use span_id::{Bits, Fault, Fields, Id, Level, Limits, SharedMeta};
 use std::alloc::Global;
 use std::process::Abort;
@@ -198,6 +198,53 @@ fn what_was_looked_up_is_taken(rt: HostRuntime) {
     are_listed(&rt, forest.release(two, Handle), &[]);
     closes_as_told(&rt, &mut forest, last, &[last, two]);
     same(&rt, forest.handles(), 1, "the handles");
+}
+
+// The fields that come out where a holder of a span is given back.
+fn gives_fields(
+    rt: &impl Abort,
+    forest: &mut Forest,
+    number: u64,
+    holder: Holder,
+    want: &[(&str, &str)],
+) {
+    let id = id(rt, number);
+    let span = forest.find(id).expect(rt, "an open span");
+    let held = if holder == Handle {
+        span.handles
+    } else {
+        span.entries
+    };
+    assert!(rt; held > 0);
+    let closing = forest.closing_of_held(id, holder).expect(rt, "memory");
+    let given = forest.release_for_fields(id, holder, closing.as_slice());
+    are_fields(rt, &given, want);
+}
+
+// A span that stays open keeps its fields, and of those above it that close with it none come out.
+#[test]
+fn fields_of_the_span_that_closes_come_out(rt: HostRuntime) {
+    let alloc = rt.alloc();
+    let mut forest = forest(&rt, alloc, 4);
+    adds_three(&rt, alloc, &mut forest);
+    let (one, two, last) = (id(&rt, 1), id(&rt, 2), id(&rt, 3));
+    adds_a_handle(&rt, &mut forest, last);
+    let (low, mid, high) = (&[("k", "3")], &[("k", "2")], &[("k", "1")]);
+    for (span, said) in [(last, low), (two, mid), (one, high)] {
+        let said = fields(&rt, alloc, said);
+        forest.share_fields(span, &said).expect(&rt, "an open span");
+    }
+    gives_fields(&rt, &mut forest, 3, Handle, &[]);
+    are_listed(&rt, forest.release(two, Handle), &[]);
+    gives_fields(&rt, &mut forest, 3, Handle, low);
+    holds(
+        &rt,
+        forest.find(two).is_none() & forest.find(one).is_some(),
+        "the one above",
+    );
+    forest.keep(one, Entry).expect(&rt, "a handle");
+    gives_fields(&rt, &mut forest, 1, Handle, &[]);
+    gives_fields(&rt, &mut forest, 1, Entry, high);
 }
 
 // Shares the fields with the first span once and with the second one twice, and writes others to the first one.

@@ -2,8 +2,9 @@
 use crate::tests::compare::{crosses_threads, holds, same};
 use crate::tests::layers::fixtures::{are_fields, fields};
 use crate::values::{field, list};
-use span_id::{Bits, Fields, Level};
+use span_id::{Bits, Field, Fields, Level};
 use std::alloc::Global;
+use std::mem::size_of;
 use std::process::Abort;
 
 static LEVELS: [Level; 5] = [
@@ -102,6 +103,43 @@ fn copy_over_others(rt: &impl Abort, alloc: Global, want: &[(&str, &str)]) {
         let copy = earlier.copy_over(alloc, copied.as_slice());
         are_fields(rt, &copy.expect(rt, "memory"), want);
     }
+}
+
+// A list has room for one field in itself, and its memory counts with all the room that it has.
+#[test]
+fn fields_have_so_many_bytes(rt: HostRuntime) {
+    let alloc = rt.alloc();
+    let mut roomy = list(alloc, &GROWN[..2]).expect(&rt, "memory");
+    roomy.reserve_exact(7).expect(&rt, "memory");
+    let roomy = Fields::new(alloc, roomy).expect(&rt, "memory");
+    let all = [
+        Fields::none(),
+        fields(&rt, alloc, &GROWN[..1]),
+        fields(&rt, alloc, &GROWN),
+        roomy,
+    ];
+    for (fields, places) in all.iter().zip([0usize, 1, 4, 9]) {
+        let texts = fields.len().saturating_mul(2);
+        let want = places.saturating_mul(size_of::<Field>());
+        same(&rt, fields.bytes(), want.saturating_add(texts), places);
+    }
+}
+
+// A field is the same, whatever it is written over, and another owner keeps what he had.
+#[test]
+fn one_field_is_written_over_others(rt: HostRuntime) {
+    let alloc = rt.alloc();
+    for len in 0..=GROWN.len() {
+        let (earlier, _) = GROWN.split_at(len);
+        let earlier = fields(&rt, alloc, earlier);
+        let one = earlier.one_over(alloc, "key", "");
+        are_fields(&rt, &one.expect(&rt, "memory"), &[("key", "")]);
+    }
+    let kept = fields(&rt, alloc, &GROWN[..1]);
+    let shared = kept.share().expect(&rt, "memory");
+    let one = shared.one_over(alloc, "l", "2").expect(&rt, "memory");
+    are_fields(&rt, &one, &GROWN[1..2]);
+    are_fields(&rt, &kept, &GROWN[..1]);
 }
 
 #[test]

@@ -99,10 +99,11 @@ pub(crate) fn give_back(recent: &mut Recent, forest: &mut Forest, id: Id, closin
     ensures remembers { Remembers forest.new recent.new.paths }
 {
     walks_end(forest);
-    forest.release_closing(id, Holder::Handle, closing);
+    let fields = forest.release_for_fields(id, Holder::Handle, closing);
     walks_end(forest);
     open_spans_are_counted(forest);
     recent.paths.forget(closing);
+    recent.keep_fields(fields);
 }
 
 // The spans that close where a worker leaves a span: none where the span stays in its stack.

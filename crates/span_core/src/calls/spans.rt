@@ -30,7 +30,7 @@ use span_forest::Forest;
 use span_forest::laws::{
     each_slot_has_one_open_id, next_id_is_new, open_spans_are_counted, walks_end,
 };
-use span_id::{Fault, Field, Fields, Id, Meta, SharedMeta};
+use span_id::{Fault, Field, Fields, Id, Level, Meta, SharedMeta};
 use span_layers::{Admit, Note};
 use span_outlet::{Batch, Call, KnownSpan, Outlet, ParentOf, Reply};
 
@@ -145,6 +145,31 @@ impl<O: Outlet, A: Admit> Core<O, A> {
         )
     }
 
+    /// A meta for the calls that share one: where an equal one was copied lately, it has one owner more. The only error is
+    /// `Memory`.
+    pub fn shared_meta(
+        &mut self,
+        level: Level,
+        name: &str,
+        target: &str,
+    ) -> Result<SharedMeta, Fault>
+        ensures meta { IfOk result (λ meta. meta ≡ record { name = name.now; target = target.now; level = level }) }
+        ensures memory { IfErr result (λ fault. fault ≡ Fault.Memory) }
+        ensures same { self.new ≡ self.old }
+    {
+        self.recent.metas.share_texts(level, name, target)
+    }
+
+    /// A field of its own, for `new_span_owning`: in the memory of the field of a span that closed, where nobody else has
+    /// that. The only error is `Memory`.
+    pub fn one_field(&mut self, key: &str, value: &str) -> Result<Fields, Fault>
+        ensures field { IfOk result (λ fields. fields ≡ (key.now, value.now) ∷ []) }
+        ensures memory { IfErr result (λ fault. fault ≡ Fault.Memory) }
+        ensures same { self.new ≡ self.old }
+    {
+        self.recent.spare_fields.one(key, value)
+    }
+
     // Makes a span of what is given.
     fn new_span_given(
         &mut self,
@@ -212,7 +237,7 @@ impl<O: Outlet, A: Admit> Core<O, A> {
         each_slot_has_one_open_id(&self.forest);
         open_spans_are_counted(&self.forest);
         let meta = new.meta.keep(&mut self.recent.metas)?;
-        let fields = fields.keep(self.recent.alloc)?;
+        let fields = fields.keep_of_new(&mut self.recent.spare_fields)?;
         let mut paths = SharedPaths::none(self.recent.alloc);
         let notes = new_notes(
             &mut self.recent,

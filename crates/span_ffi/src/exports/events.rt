@@ -14,7 +14,8 @@ ghost use Rattle.span_ffi.specs.Callsites.{TellsAt};
 use crate::callsites::Callsites;
 use crate::data::{SpanField, SpanMeta};
 use crate::exports::callers::{has_worker, id_of, read_parent};
-use crate::reading::{read_fields, read_message, read_meta, unread};
+use crate::exports::recalling::recall_meta;
+use crate::reading::{read_fields, read_message, unread};
 use crate::registry::{Registry, RingCore};
 use crate::registry_handle::SpanRegistry;
 use crate::valid::{are_fields, is_event, is_told};
@@ -115,7 +116,7 @@ fn event(
     let Some(parent) = read_parent(core, parent_kind, parent) else {
         return Status::BadData;
     };
-    match read_meta(alloc, meta, texts) {
+    match recall_meta(core, meta, texts) {
         Some((meta, rest)) => tell(
             alloc,
             core,

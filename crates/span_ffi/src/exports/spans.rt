@@ -12,7 +12,8 @@ ghost use Rattle.span_ffi.specs.Callsites.{MakesSpanAt};
 use crate::callsites::Callsites;
 use crate::data::{SpanField, SpanMeta};
 use crate::exports::callers::{has_worker, read_parent};
-use crate::reading::{read_fields, read_meta, unread};
+use crate::exports::recalling::{read_span_fields, recall_meta};
+use crate::reading::unread;
 use crate::registry::{Registry, RingCore};
 use crate::registry_handle::SpanRegistry;
 use crate::valid::{are_fields, is_span};
@@ -24,6 +25,7 @@ use std::alloc::Global;
 // The meta and the fields of a span. None: the data say nothing, or memory is refused.
 fn read_span(
     alloc: Global,
+    core: &mut RingCore,
     meta: &SpanMeta,
     fields: &[SpanField],
     texts: &[u8],
@@ -32,9 +34,10 @@ fn read_span(
     ensures are { OnSome result (AreFields fields.now (behind_meta meta.now texts.now)) }
     ensures meta { IfSome result (λ span. span.0 ≡ said_meta meta.now texts.now) }
     ensures fields { IfSome result (λ span. span.1 ≡ said_fields fields.now (behind_meta meta.now texts.now)) }
+    ensures same { core.new ≡ core.old }
 {
-    let (meta, rest) = read_meta(alloc, meta, texts)?;
-    let fields = read_fields(alloc, fields, rest)?;
+    let (meta, rest) = recall_meta(core, meta, texts)?;
+    let fields = read_span_fields(alloc, core, fields, rest)?;
     Some((meta, fields))
 }
 
@@ -91,7 +94,7 @@ fn make_span(
     let Some(parent) = read_parent(core, parent_kind, parent) else {
         return Status::BadData;
     };
-    match read_span(alloc, meta, fields, texts) {
+    match read_span(alloc, core, meta, fields, texts) {
         Some((meta, fields)) => new_span(core, worker, parent, &meta, fields, id),
         None => unread(is_span(meta, fields, texts)),
     }
@@ -171,7 +174,7 @@ fn make_span_at(
     let Some(parent) = read_parent(core, parent_kind, parent) else {
         return Status::BadData;
     };
-    match read_fields(alloc, fields, texts) {
+    match read_span_fields(alloc, core, fields, texts) {
         Some(fields) => new_span(core, worker, parent, meta, fields, id),
         None => unread(are_fields(fields, texts)),
     }

@@ -2,7 +2,7 @@ use Rattle.std.proofs.Common.{◌<◌, sym, subst, ◌∙◌}
 use Rattle.std.specs.Option.{IsSomeAnd}
 use Rattle.span_slots.specs.Table.{find}
 use Rattle.span_forest.specs.declared.span.Span.{Span}
-use Rattle.span_forest.proofs.Nodes.{value_of_open}
+use Rattle.span_forest.proofs.Nodes.{fields-found, value_of_open}
 use Rattle.span_forest.proofs.Counts.{closed_root, closed_child, parent_counts, none_is}
 use Rattle.span_forest.specs.Spans.{nodes_of}
 use Rattle.span_forest.proofs.Ranks.{ranked}
@@ -19,14 +19,24 @@ lower-requires c =
     let up = parent_counts c.args.slots.now c.remove.new.self c.args.id c.in-Some-parent.parent c.in-Some.span (ranked (nodes_of c.args.slots.now.entries) c.requires.forest) c.requires.counted c.requires.leaf found c.remove.ensures.table c.in-Some-parent.is in
     subst (λ o. IsSomeAnd o (λ (s : Span). 0 < s.count)) (sym up.1) up.2
 
-pub returns-in-Some-parent : goal.returns-in-Some-parent
-returns-in-Some-parent c =
-    let found = sym c.remove.ensures.value ∙ c.in-Some.is in
-    let d = closed_child c.args.slots.now c.remove.new.self c.lower.new.slots c.args.id c.in-Some-parent.parent c.in-Some.span (ranked (nodes_of c.args.slots.now.entries) c.requires.forest) c.requires.counted c.requires.leaf found c.remove.ensures.table c.in-Some-parent.is c.lower.ensures in
-    record { nodes = d.nodes; counted = d.counted; table = d.table }
-
 pub returns : goal.returns
 returns c =
     let found = sym c.remove.ensures.value ∙ c.in-Some.is in
+    let d = closed_child c.args.slots.now c.remove.new.self c.lower.new.slots c.args.id c.in-Some-parent.parent c.in-Some.span (ranked (nodes_of c.args.slots.now.entries) c.requires.forest) c.requires.counted c.requires.leaf found c.remove.ensures.table c.in-Some-parent.is c.lower.ensures in
+    record {
+      nodes = d.nodes;
+      counted = d.counted;
+      table = d.table;
+      fields = fields-found c.args.slots.now.entries c.args.id c.in-Some.span found;
+    }
+
+pub returns-in_default-parent : goal.returns-in_default-parent
+returns-in_default-parent c =
+    let found = sym c.remove.ensures.value ∙ c.in-Some.is in
     let d = closed_root c.args.slots.now c.remove.new.self c.args.id c.in-Some.span (ranked (nodes_of c.args.slots.now.entries) c.requires.forest) c.requires.counted found c.remove.ensures.table c.in_default-parent.is in
-    record { nodes = d.nodes; counted = d.counted; table = d.table }
+    record {
+      nodes = d.nodes;
+      counted = d.counted;
+      table = d.table;
+      fields = fields-found c.args.slots.now.entries c.args.id c.in-Some.span found;
+    }

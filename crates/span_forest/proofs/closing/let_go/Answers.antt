@@ -11,7 +11,7 @@ use Rattle.span_forest.proofs.Along.{Along_none}
 use Rattle.span_forest.proofs.Counts.{Closed, Closes, held_counts, nodes_less, counted_less, Closes_none, Closes_turn, Closes_end, settled_at_end}
 use Rattle.span_forest.proofs.LastHolder.{chain_first, leaf_before, Closes_above, nodes_at_end, table_at_end, none_from_length}
 use Rattle.span_forest.proofs.closing.let_go.Goals as goal
-use Rattle.span_forest.proofs.closing.let_go.Goals.{In-Some, After-close_one, After-loop-gone, After-drop_holder}
+use Rattle.span_forest.proofs.closing.let_go.Goals.{In-Some, After-close_one-fields, After-loop-gone, After-drop_holder}
 
 -- ---- where nothing closes
 
@@ -57,34 +57,45 @@ first : (c : In-Some) → c.args.closed.now ≡ c.args.id ∷ c.in-Some.above.no
 first c =
     chain_first (without_holder (nodes_of c.args.slots.now.entries) c.args.id c.args.holder) c.args.id c.in-Some.field-0-0.now c.args.closed.now c.in-Some.above.now c.requires.chain c.in-Some.ensures.cases.0
 
-gone : (c : After-close_one) → Closed c.args.slots.now c.close_one.new.slots c.args.id
-gone c = record { nodes = c.close_one.ensures.nodes; counted = c.close_one.ensures.counted; table = c.close_one.ensures.table }
+gone : (c : After-close_one-fields) → Closed c.args.slots.now c.close_one-fields.new.slots c.args.id
+gone c = record { nodes = c.close_one-fields.ensures.nodes; counted = c.close_one-fields.ensures.counted; table = c.close_one-fields.ensures.table }
 
-at_end : (c : After-loop-gone) → Closes c.close_one.new.slots c.loop-gone.slots c.in-Some.above.now []
+at_end : (c : After-loop-gone) → Closes c.close_one-fields.new.slots c.loop-gone.slots c.in-Some.above.now []
 at_end c =
-    Closes_end c.close_one.new.slots c.loop-gone.slots c.in-Some.above.now c.loop-gone.gone-index c.loop-gone-test.false c.loop-gone.invariant
+    Closes_end c.close_one-fields.new.slots c.loop-gone.slots c.in-Some.above.now c.loop-gone.gone-index c.loop-gone-test.false c.loop-gone.invariant
 
-pub close_one-requires-clause-leaf : goal.close_one-requires-clause-leaf
-close_one-requires-clause-leaf c =
-    leaf_before (nodes_of c.args.slots.now.entries) c.args.id c.args.holder c.args.closed.now c.in-Some.above.now c.requires.chain (first (goal.at.close_one-requires-clause-leaf c).In-Some)
+pub close_one-fields-requires-clause-leaf : goal.close_one-fields-requires-clause-leaf
+close_one-fields-requires-clause-leaf c =
+    leaf_before (nodes_of c.args.slots.now.entries) c.args.id c.args.holder c.args.closed.now c.in-Some.above.now c.requires.chain (first (goal.at.close_one-fields-requires-clause-leaf c).In-Some)
 
 pub loop-gone-init : goal.loop-gone-init
 loop-gone-init c =
-    Closes_above c.args.slots.now c.close_one.new.slots c.args.id c.args.holder c.args.closed.now c.in-Some.above.now (first (goal.at.loop-gone-init c).In-Some) (gone (goal.at.loop-gone-init c).After-close_one) c.requires.settled c.requires.held c.requires.chain
+    Closes_above c.args.slots.now c.close_one-fields.new.slots c.args.id c.args.holder c.args.closed.now c.in-Some.above.now (first (goal.at.loop-gone-init c).In-Some) (gone (goal.at.loop-gone-init c).After-close_one-fields) c.requires.settled c.requires.held c.requires.chain
 
 pub loop-gone-preserved : goal.loop-gone-preserved
 loop-gone-preserved c =
-    Closes_turn c.close_one.new.slots c.loop-gone.slots c.close_one-in-loop-gone.new.slots c.in-Some.above.now c.loop-gone.gone-index c.gone-item.result c.loop-gone-test.true c.gone-item.is c.loop-gone.invariant
-    (record { nodes = c.close_one-in-loop-gone.ensures.nodes; counted = c.close_one-in-loop-gone.ensures.counted; table = c.close_one-in-loop-gone.ensures.table })
+    Closes_turn c.close_one-fields.new.slots c.loop-gone.slots c.close_one.new.slots c.in-Some.above.now c.loop-gone.gone-index c.gone-item.result c.loop-gone-test.true c.gone-item.is c.loop-gone.invariant
+    (record { nodes = c.close_one.ensures.nodes; counted = c.close_one.ensures.counted; table = c.close_one.ensures.table })
 
 pub returns-clause-settled : goal.returns-clause-settled
 returns-clause-settled c =
-    settled_at_end c.close_one.new.slots c.loop-gone.slots c.in-Some.above.now (at_end (goal.at.returns-clause-settled c).After-loop-gone)
+    settled_at_end c.close_one-fields.new.slots c.loop-gone.slots c.in-Some.above.now (at_end (goal.at.returns-clause-settled c).After-loop-gone)
 
 pub returns-clause-nodes : goal.returns-clause-nodes
 returns-clause-nodes c =
-    nodes_at_end c.args.slots.now c.close_one.new.slots c.args.id c.args.holder c.args.closed.now c.in-Some.above.now (first (goal.at.returns-clause-nodes c).In-Some) (gone (goal.at.returns-clause-nodes c).After-close_one) c.loop-gone.slots (at_end (goal.at.returns-clause-nodes c).After-loop-gone)
+    nodes_at_end c.args.slots.now c.close_one-fields.new.slots c.args.id c.args.holder c.args.closed.now c.in-Some.above.now (first (goal.at.returns-clause-nodes c).In-Some) (gone (goal.at.returns-clause-nodes c).After-close_one-fields) c.loop-gone.slots (at_end (goal.at.returns-clause-nodes c).After-loop-gone)
 
 pub returns-clause-table : goal.returns-clause-table
 returns-clause-table c =
-    table_at_end c.args.slots.now c.close_one.new.slots c.args.id c.args.holder c.args.closed.now c.in-Some.above.now (first (goal.at.returns-clause-table c).In-Some) (gone (goal.at.returns-clause-table c).After-close_one) c.loop-gone.slots (at_end (goal.at.returns-clause-table c).After-loop-gone)
+    table_at_end c.args.slots.now c.close_one-fields.new.slots c.args.id c.args.holder c.args.closed.now c.in-Some.above.now (first (goal.at.returns-clause-table c).In-Some) (gone (goal.at.returns-clause-table c).After-close_one-fields) c.loop-gone.slots (at_end (goal.at.returns-clause-table c).After-loop-gone)
+
+-- ---- the fields of the span itself
+
+pub returns-in_default-clause-fields : goal.returns-in_default-clause-fields
+returns-in_default-clause-fields c = λ some. absurd (some (none (goal.at.returns-in_default-clause-fields c).After-drop_holder))
+
+pub returns-clause-open : goal.returns-clause-open
+returns-clause-open c = λ empty. (let never = sym (first (goal.at.returns-clause-open c).In-Some) ∙ empty in cc)
+
+pub returns-clause-fields : goal.returns-clause-fields
+returns-clause-fields c = λ _. c.close_one-fields.ensures.fields

@@ -11,4 +11,4 @@ returns-in-Some-read_span-clause-made c =
     makes_as_read c.args.worker c.args.parent_kind c.args.parent _
     (said_meta c.args.meta.now c.args.texts.now) (said_fields c.args.fields.now (behind_meta c.args.meta.now c.args.texts.now))
     c.new_span.new.id c.args.core.now c.new_span.result c.new_span.new.core
-    _ _ c.in-Some.parent within says (search rules) (search rules) c.in-Some.ensures.parent c.new_span.ensures.made
+    _ _ c.in-Some.parent within says (search rules) (search rules) c.in-Some.ensures.parent (rw c.read_span.ensures.same at c.new_span.ensures.made)
