@@ -57,10 +57,9 @@ class Proof(Command):
         """The functions that are checked."""
         return self.functions if self.is_proved() else min(self.checked, self.functions)
 
-    def most_jobs(self):
-        """How many jobs it gets at most beside a longer way: each loads all that the crate stands on, which takes as long
-        as some 25 functions."""
-        return max(self.functions // 25, 1)
+    def jobs(self, functions, most):
+        """A job for each so many functions, as each loads all that the crate stands on; at most so many."""
+        return max(min(self.functions // functions, most), 1) if self.functions else most
 
     def left(self):
         """The seconds that are left of it by its listed time."""
@@ -134,9 +133,9 @@ class Progress:
 def begin_those_that_can(proofs, jobs):
     """Begins crates below which all is proved, those with the longest ways first, and gives them.
 
-    The one with the longest way of all gets a job for each processor, and goes before the others, for what that one
-    leaves: no proof gets more jobs later, and none has work for all of them all the time. At once are three for each
-    four processors: so those with short ways run beside the last ones, which leave the most.
+    One with the longest way of all gets up to two jobs for each processor, since some end long before others, and goes
+    before the other crates, which get up to one, for what it leaves. No proof gets more jobs later. At once are three
+    crates for each four processors: so those with short ways run beside the last ones, which leave the most.
     """
     ways = ways_through(proofs)
     ready = [it for it in proofs if not it.thread and all(below.is_proved() for below in it.below)]
@@ -147,7 +146,8 @@ def begin_those_that_can(proofs, jobs):
         is_longest = all(ways[proof] >= ways[it] for it in proofs if it.is_at_work())
         words = "rt run --jobs {} -- replay" if proof is proofs[-1] else "rt lib --jobs {}"
         proof.is_from_nothing = not proof.kept.exists()
-        its_jobs = jobs if is_longest else min(proof.most_jobs(), jobs)
+        # (to load all takes as long as some 25 functions; where processors would stand idle, it may be done for fewer)
+        its_jobs = proof.jobs(12, 2 * jobs) if is_longest else proof.jobs(25, jobs)
         proof.begin(words.format(its_jobs).split(), proof.kept.parent, 0 if is_longest else 10)
     return begun
 
