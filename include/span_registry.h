@@ -28,7 +28,8 @@ typedef struct SpanDrain {
 
 enum {
     SPAN_OK = 0,
-    SPAN_UNKNOWN = 1,          /* no open span has the id; where the call needs a handle of it: or none is out */
+    SPAN_UNKNOWN = 1,          /* no open span has the id; where the call needs a handle of it: or none is out; or the
+                                  heading was lost */
     SPAN_COUNT_FULL = 2,       /* a count that would rise stands at its greatest value, or a length is too great for
                                   its number */
     SPAN_FULL = 3,             /* no slot is free */
@@ -39,13 +40,14 @@ enum {
     SPAN_BAD_LIMITS = 8,       /* a limit is outside its range */
     SPAN_OUT_OF_MEMORY = 10,
     SPAN_BAD_DATA = 11,        /* lengths that don't fit the texts, or rules the layers; text that is no UTF-8; a level,
-                                  form, kinds or kind of parent that aren't there */
+                                  form, kinds, kind of parent or kind of value that aren't there; or no headings are
+                                  kept */
     SPAN_EMPTY_HANDLE = 12,
     SPAN_HANDLE_IN_USE = 13,   /* a handle that was to be filled isn't empty */
     SPAN_NO_SUCH_WORKER = 14,
-    SPAN_NO_LINE = 15,         /* the drain has no line now */
+    SPAN_NO_LINE = 15,         /* the drain has no line now, or no heading of its note */
     SPAN_SHORT_BUFFER = 16,    /* the text or list is longer than the buffer: how long it is was told */
-    SPAN_NO_SUCH_CALLSITE = 17 /* no span_registry_add_callsite gave the number */
+    SPAN_NO_SUCH_CALLSITE = 17 /* no span_registry_add_callsite gave the number, or no callsite is the span's */
 };
 
 /* slots 1 to 2^24; last_generation any; max_count from 1; workers 1 to 65536; ring 1 to 65536 */
@@ -106,6 +108,14 @@ typedef struct SpanNote {
     uint32_t layer, kind, worker, level, path_len, message_len;
 } SpanNote;
 
+/* stamp: as it was said of the note's call. All else is of the event, or of the note's span where that was made:
+ * parent, which is 0 for none, and of an event the span that it is told in; has_callsite: 1 where it was at a callsite,
+ * else 0, and callsite: at which, else 0; its level; and how long its name and its target are. Its size isn't told. */
+typedef struct SpanHeading {
+    uint64_t stamp, parent;
+    uint32_t has_callsite, callsite, level, name_len, target_len;
+} SpanHeading;
+
 /* The version of this interface that the program was built for, and the one that the library has. They rise where a
  * program that was built for an earlier one would go wrong, so they are compared before any other call. */
 #define SPAN_ABI_VERSION 3
@@ -125,6 +135,15 @@ uint32_t span_struct_sizes(SpanSizes *sizes);
  * Refused in this order: SPAN_HANDLE_IN_USE, SPAN_BAD_LIMITS, SPAN_TOO_MANY_LAYERS, SPAN_BAD_DATA,
  * SPAN_OUT_OF_MEMORY. */
 uint32_t span_registry_new(SpanRegistry *registry, SpanDrain *drain, const SpanLimits *limits,
+    const SpanLayer *layers, size_t layers_len, const SpanRule *rules, size_t rules_len,
+    const uint8_t *texts, size_t texts_len);
+
+/* The same, and a heading is kept of each accepted call, which span_drain_heading tells: what was said of the call by
+ * span_registry_say_of_calls, its callsite, and what it was about. Headings have a ring of their own, with two places
+ * for each place of the other, and one more: some 90 bytes each. The drain's calls that take batches take their
+ * headings out too, as far as there is memory to keep those of spans, for later notes: of each slot the last, also once
+ * its span closed, until the drain is freed. That is some 90 bytes for each slot up to the highest one in use. */
+uint32_t span_registry_new_with_headings(SpanRegistry *registry, SpanDrain *drain, const SpanLimits *limits,
     const SpanLayer *layers, size_t layers_len, const SpanRule *rules, size_t rules_len,
     const uint8_t *texts, size_t texts_len);
 
@@ -180,6 +199,18 @@ uint32_t span_registry_event_in(SpanRegistry *registry, uint32_t worker, uint32_
     const SpanMeta *meta, uint32_t message_len, const SpanField *fields, size_t fields_len,
     const uint8_t *texts, size_t texts_len);
 
+/* Of which kind the value of a field is, which is a text here whatever its kind. */
+enum { SPAN_VALUE_TEXT = 0, SPAN_VALUE_INTEGER = 1, SPAN_VALUE_FLOAT = 2, SPAN_VALUE_BOOL = 3, SPAN_VALUE_NULL = 4 };
+
+/* Says, before a call, what its heading has of it. stamp: that of each call from now on, until another is said: a time
+ * by the program's clock, or any number; 0 before the first. value_kinds: those of the values of the next call, in the
+ * order of its fields. The next call that is accepted uses them up, whichever it is; fewer or more than its fields are
+ * kept as they are. A call that is refused, and a new span that no layer wants, leave them to the one after it. So
+ * whoever says them of one call says them of each: with value_kinds_len 0 there are none. Refused in this order:
+ * SPAN_EMPTY_HANDLE; SPAN_BAD_DATA, where no headings are kept or a kind isn't there; SPAN_OUT_OF_MEMORY. */
+uint32_t span_registry_say_of_calls(SpanRegistry *registry, uint64_t stamp,
+    const uint8_t *value_kinds, size_t value_kinds_len);
+
 /* Adds a callsite: a place of a program that makes spans or tells events again and again. Its level, name and target
  * are read, tested and kept here once. texts: name, target. number: how many callsites there were before. The number is
  * good for this registry alone, until that is freed. Equal callsites may be added, and none is taken away. It needs no
@@ -220,8 +251,14 @@ uint32_t span_registry_max_level(SpanRegistry *registry, uint32_t *levels);
 uint32_t span_registry_find(SpanRegistry *registry, uint64_t id, SpanFound *found);
 
 /* layers: bit n is set where layer n admits the span, so that it is told of it; 0 where there is no layer. It never
- * changes. At which callsite a span was made isn't kept. SPAN_UNKNOWN where the span isn't open. */
+ * changes. span_registry_callsite_of tells which callsite a span has. SPAN_UNKNOWN where the span isn't open. */
 uint32_t span_registry_layers_of(SpanRegistry *registry, uint64_t id, uint64_t *layers);
+
+/* callsite: the first one that has the level, name and target of the span. A span that was made at a callsite has one.
+ * Equal callsites can't be told apart here, and a span that was made by such texts has it too; a heading tells which it
+ * was. SPAN_UNKNOWN where the span isn't open; SPAN_NO_SUCH_CALLSITE where there is none. It looks through the
+ * callsites, and takes no memory. */
+uint32_t span_registry_callsite_of(SpanRegistry *registry, uint64_t id, uint32_t *callsite);
 
 /* What was said of an open span, as span_registry_new_span takes it: meta, one SpanField for each field, and texts:
  * name, target, then each key and its value. What was recorded stands behind what the span was made with. fields and
@@ -259,6 +296,10 @@ uint32_t span_registry_counts(SpanRegistry *registry, SpanCounts *counts);
 /* How often a call was refused with SPAN_BACKLOG. The number stays at its greatest value. */
 uint32_t span_registry_times_full(SpanRegistry *registry, uint64_t *times);
 
+/* How many headings were lost, of calls that were accepted all the same: their ring had no place, or memory was refused
+ * to what the call was about. The number stays at its greatest value. SPAN_BAD_DATA where no headings are kept. */
+uint32_t span_registry_headings_lost(SpanRegistry *registry, uint64_t *lost);
+
 /* The next line, which is UTF-8, without a newline; the rest of the buffer stays as it was. Where none is at hand,
  * batches are taken out of the ring until one is, also where the status is SPAN_NO_LINE or SPAN_SHORT_BUFFER then. A
  * line that doesn't fit stays the next one. */
@@ -268,12 +309,27 @@ uint32_t span_drain_line(SpanDrain *drain, uint32_t *layer, uint8_t *into, size_
  * what is above it that the layer admits, root first, with ':' between them; '-' for none), an event's message, then
  * each key and its value. fields, texts and their rooms: as of span_registry_details. A note whose texts aren't told
  * stays the next one: SPAN_COUNT_FULL as there, and SPAN_SHORT_BUFFER, where `note` is told all the same. Since no path
- * is empty, a call with no room for texts tells of which layer the next note is; then that or its line may be taken.
- * Each accepted call is one batch, in their order: its number is `calls` of span_registry_counts before the call. By it
- * a program finds what it keeps of a call beside the registry, as a time or the types of its values. A span's level and
- * target are told by span_registry_details as long as it is open. */
+ * is empty, a call with no room for texts tells of which layer the next note is; then its heading may be asked for
+ * (span_drain_heading), and it or its line be taken. Each accepted call is one batch, in their order: its number is
+ * `calls` of span_registry_counts before the call. */
 uint32_t span_drain_note(SpanDrain *drain, SpanNote *note, SpanField *fields, size_t fields_room, size_t *fields_len,
     uint8_t *texts, size_t texts_room, size_t *texts_len);
+
+/* The heading of the next note, which stays the next one: what the note doesn't tell of its call. value_kinds: of a
+ * record and of an event those that were said for it, of any other note those that were said for the call that made its
+ * span. They needn't be as many as the note's fields: an enter and an exit have none, and a close has recorded ones
+ * behind those that the span was made with, whose kinds their records told. texts: name, target. value_kinds, texts and
+ * their rooms: as fields, texts and theirs of span_registry_details, but with SPAN_SHORT_BUFFER `heading` is told all
+ * the same. Where no line is at hand, batches are taken as of span_drain_line, whatever the status is. A heading comes
+ * right after the notes of its call. So while another thread is still in the call, SPAN_NO_LINE may come for a note
+ * that is there, as span_drain_note with no room for texts tells: ask again. Where no thread is in it any longer,
+ * SPAN_NO_LINE says that the heading was lost and that none behind it is there; with one behind it that is
+ * SPAN_UNKNOWN, as it is where the heading of the call that made the span was lost. Of several things the status tells
+ * the first: SPAN_EMPTY_HANDLE; SPAN_BAD_DATA where no headings are kept, and then no batch is taken;
+ * SPAN_OUT_OF_MEMORY where an earlier span's heading can't be kept, also with no line: those behind it stay in the
+ * ring, so ask again; SPAN_NO_LINE or SPAN_UNKNOWN; SPAN_COUNT_FULL as of span_registry_details; SPAN_SHORT_BUFFER. */
+uint32_t span_drain_heading(SpanDrain *drain, SpanHeading *heading, uint8_t *value_kinds, size_t value_kinds_room,
+    size_t *value_kinds_len, uint8_t *texts, size_t texts_room, size_t *texts_len);
 
 /* Gives up the lines that are left of the batch whose lines are at hand. Where none is at hand, batches are taken as of
  * span_drain_line, and all lines of the first batch that has one are given up. skipped: how many they were.

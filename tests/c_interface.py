@@ -32,6 +32,8 @@ PROGRAMS = [
     ("holding", WRAPS, CHECKED),
     ("telling", WRAPS, CHECKED),
     ("notes", WRAPS, CHECKED),
+    ("headings", WRAPS, CHECKED),
+    ("lost_headings", WRAPS, CHECKED),
     ("strangers", [], CHECKED),
     ("million", WRAPS, AT_SPEED),
 ]

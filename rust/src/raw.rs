@@ -128,6 +128,18 @@ pub(crate) struct SpanNote {
 }
 
 #[repr(C)]
+#[allow(dead_code)]
+struct SpanHeading {
+    stamp: u64,
+    parent: u64,
+    has_callsite: u32,
+    callsite: u32,
+    level: u32,
+    name_len: u32,
+    target_len: u32,
+}
+
+#[repr(C)]
 #[derive(Clone, Copy, Debug, Default, PartialEq, Eq)]
 struct SpanSizes {
     limits: u32,
@@ -163,6 +175,18 @@ unsafe extern "C" {
     fn span_abi_version() -> u32;
     fn span_struct_sizes(sizes: *mut SpanSizes) -> u32;
     fn span_registry_new(
+        registry: *mut SpanRegistry,
+        drain: *mut SpanDrain,
+        limits: *const SpanLimits,
+        layers: *const SpanLayer,
+        layers_len: usize,
+        rules: *const SpanRule,
+        rules_len: usize,
+        texts: *const u8,
+        texts_len: usize,
+    ) -> u32;
+    #[allow(dead_code)]
+    fn span_registry_new_with_headings(
         registry: *mut SpanRegistry,
         drain: *mut SpanDrain,
         limits: *const SpanLimits,
@@ -240,6 +264,13 @@ unsafe extern "C" {
         texts: *const u8,
         texts_len: usize,
     ) -> u32;
+    #[allow(dead_code)]
+    fn span_registry_say_of_calls(
+        registry: *mut SpanRegistry,
+        stamp: u64,
+        value_kinds: *const u8,
+        value_kinds_len: usize,
+    ) -> u32;
     fn span_registry_add_callsite(
         registry: *mut SpanRegistry,
         meta: *const SpanMeta,
@@ -293,6 +324,8 @@ unsafe extern "C" {
     fn span_registry_max_level(registry: *mut SpanRegistry, levels: *mut u32) -> u32;
     fn span_registry_find(registry: *mut SpanRegistry, id: u64, found: *mut SpanFound) -> u32;
     fn span_registry_layers_of(registry: *mut SpanRegistry, id: u64, layers: *mut u64) -> u32;
+    #[allow(dead_code)]
+    fn span_registry_callsite_of(registry: *mut SpanRegistry, id: u64, callsite: *mut u32) -> u32;
     fn span_registry_details(
         registry: *mut SpanRegistry,
         id: u64,
@@ -313,6 +346,8 @@ unsafe extern "C" {
         depth: *mut usize,
     ) -> u32;
     fn span_registry_times_full(registry: *mut SpanRegistry, times: *mut u64) -> u32;
+    #[allow(dead_code)]
+    fn span_registry_headings_lost(registry: *mut SpanRegistry, lost: *mut u64) -> u32;
     fn span_registry_counts(registry: *mut SpanRegistry, counts: *mut SpanCounts) -> u32;
     fn span_registry_open_ids(registry: *mut SpanRegistry, into: *mut u64, into_len: usize, len: *mut usize) -> u32;
     fn span_registry_holders_of(
@@ -337,6 +372,17 @@ unsafe extern "C" {
         fields: *mut SpanField,
         fields_room: usize,
         fields_len: *mut usize,
+        texts: *mut u8,
+        texts_room: usize,
+        texts_len: *mut usize,
+    ) -> u32;
+    #[allow(dead_code)]
+    fn span_drain_heading(
+        drain: *mut SpanDrain,
+        heading: *mut SpanHeading,
+        value_kinds: *mut u8,
+        value_kinds_room: usize,
+        value_kinds_len: *mut usize,
         texts: *mut u8,
         texts_room: usize,
         texts_len: *mut usize,
@@ -381,6 +427,10 @@ mod tests {
         assert_eq!((size_of::<SpanHeld>(), offset_of!(SpanHeld, entries)), (16, 12));
         assert_eq!((size_of::<SpanCounts>(), offset_of!(SpanCounts, open)), (40, 32));
         assert_eq!((size_of::<SpanNote>(), offset_of!(SpanNote, message_len)), (40, 36));
+        assert_eq!(
+            (size_of::<SpanHeading>(), offset_of!(SpanHeading, target_len)),
+            (40, 32)
+        );
         assert_eq!(size_of::<SpanSizes>(), 32);
     }
 

@@ -116,14 +116,14 @@ fn structs_of_rust(raw: &str) -> Declared {
 #[test]
 fn the_functions_are_those_of_the_header() {
     let wanted = functions_of_c(&header());
-    assert_eq!(wanted.len(), 38, "{:?}", wanted.keys());
+    assert_eq!(wanted.len(), 43, "{:?}", wanted.keys());
     assert_eq!(functions_of_rust(&raw()), wanted);
 }
 
 #[test]
 fn the_structs_are_those_of_the_header() {
     let wanted = structs_of_c(&header());
-    assert_eq!(wanted.len(), 12, "{:?}", wanted.keys());
+    assert_eq!(wanted.len(), 13, "{:?}", wanted.keys());
     assert_eq!(structs_of_rust(&raw()), wanted);
     assert_eq!(raw().matches("#[repr(C)]").count(), wanted.len());
 }

@@ -1,5 +1,6 @@
-/* Callsites: a span or an event at one is what the same call by its meta is, and what is refused. The last line that it
- * prints is 'N passed, M failed'. It is linked with --wrap=malloc and --wrap=realloc, so that memory can be refused. */
+/* Callsites: a span or an event at one is what the same call by its meta is, which one a span has, and what is refused.
+ * The last line that it prints is 'N passed, M failed'. It is linked with --wrap=malloc and --wrap=realloc, so that
+ * memory can be refused. */
 #include "checks.h"
 #include "span_registry.h"
 
@@ -400,6 +401,49 @@ static void test_wants(void) {
     CHECK(span_registry_callsite_wants(&registry, 0, &wanted) == SPAN_EMPTY_HANDLE && wanted == 0);
 }
 
+/* the callsite that is told of a span, which takes no memory; 99 for none */
+static uint32_t callsite_of(uint64_t id, uint32_t wanted) {
+    uint32_t callsite = 99;
+    allocations_left = 0;
+    CHECK(span_registry_callsite_of(&registry, id, &callsite) == wanted);
+    allocations_left = -1;
+    return callsite;
+}
+
+/* a span by its texts, of 12 bytes */
+static uint64_t span_by_texts(SpanMeta meta, const char *texts) {
+    uint64_t id = 0;
+    CHECK(span_registry_new_span(&registry, 0, SPAN_ROOT, 0, &meta, no_fields, 0, bytes(texts), 12, &id) == SPAN_OK);
+    return id;
+}
+
+static void test_callsite_of(void) {
+    uint64_t id, other = 0, next = 0;
+    uint32_t number = 0, closed = 0;
+    CHECK(callsite_of(1, SPAN_EMPTY_HANDLE) == 99);
+    CHECK(open_one(&registry, &drain, usual_limits) == SPAN_OK);
+    id = span_by_texts(places[0].meta, places[0].texts);
+    CHECK(callsite_of(id, SPAN_NO_SUCH_CALLSITE) == 99);
+    add_places();
+    /* what a callsite has that is added later */
+    CHECK(callsite_of(id, SPAN_OK) == 0);
+    /* of equal ones the first */
+    CHECK(add(1, &number) == SPAN_OK && number == PLACES);
+    CHECK(span_at(PLACES, SPAN_UNDER, id, &other) == SPAN_OK && callsite_of(other, SPAN_OK) == 1);
+    /* another level, name or target, or the same bytes in other texts */
+    CHECK(callsite_of(span_by_texts((SpanMeta){1, 5, 7}, "queryapp::db"), SPAN_NO_SUCH_CALLSITE) == 99);
+    CHECK(callsite_of(span_by_texts((SpanMeta){2, 5, 7}, "queryapp::dc"), SPAN_NO_SUCH_CALLSITE) == 99);
+    CHECK(callsite_of(span_by_texts((SpanMeta){2, 5, 7}, "quereapp::db"), SPAN_NO_SUCH_CALLSITE) == 99);
+    CHECK(callsite_of(span_by_texts((SpanMeta){2, 4, 8}, "queryapp::db"), SPAN_NO_SUCH_CALLSITE) == 99);
+    CHECK(callsite_of(0, SPAN_UNKNOWN) == 99 && callsite_of(UINT64_MAX, SPAN_UNKNOWN) == 99);
+    /* a closed span, and the next one of its slot */
+    CHECK(span_registry_try_close(&registry, 0, other, &closed) == SPAN_OK && closed == 1);
+    CHECK(callsite_of(other, SPAN_UNKNOWN) == 99);
+    CHECK(span_at(0, SPAN_ROOT, 0, &next) == SPAN_OK && next == other + 16777216);
+    CHECK(callsite_of(other, SPAN_UNKNOWN) == 99 && callsite_of(next, SPAN_OK) == 0);
+    close_both();
+}
+
 int main(void) {
     test_wants();
     test_numbers();
@@ -411,6 +455,7 @@ int main(void) {
     test_empty_handle();
     test_refused_memory();
     test_many();
+    test_callsite_of();
     printf("%d passed, %d failed\n", passed, failed);
     return failed == 0 ? EXIT_SUCCESS : EXIT_FAILURE;
 }

@@ -95,7 +95,7 @@ static void refuses(uint64_t id) {
     SpanFound found = {1, 2, 3, 4, 5};
     SpanHeld holder = {6, 7, 8};
     uint64_t made = 99;
-    uint32_t answer = 98, inside = 97;
+    uint32_t answer = 98, inside = 97, callsite = 95;
     size_t len = 96;
     check(make_span(SPAN_UNDER, id, &made) == SPAN_UNKNOWN, "new_span", id);
     check(span_registry_clone_span(&registry, 0, id) == SPAN_UNKNOWN, "clone_span", id);
@@ -106,8 +106,10 @@ static void refuses(uint64_t id) {
     check(span_registry_find(&registry, id, &found) == SPAN_UNKNOWN, "find", id);
     check(span_registry_holders_of(&registry, id, &holder, 1, &len) == SPAN_UNKNOWN, "holders_of", id);
     check(span_registry_workers_inside(&registry, id, &inside, 1, &len) == SPAN_UNKNOWN, "workers_inside", id);
+    check(span_registry_callsite_of(&registry, id, &callsite) == SPAN_UNKNOWN, "callsite_of", id);
     check(made == 99 && answer == 98 && found.parent == 1 && found.count == 4, "nothing was written", id);
     check(holder.id == 6 && holder.entries == 8 && inside == 97 && len == 96, "nothing was listed", id);
+    check(callsite == 95, "no callsite was told", id);
 }
 
 static unsigned lines(void) {

@@ -1,6 +1,6 @@
 -- Worked cases of the definitions, computed from them alone.
 use Rattle.std.proofs.Common.{◌≡◌, refl, ap, List, [], ◌∷◌, length, arith}
-use Rattle.std.specs.Prelude.{slice_get}
+use Rattle.std.specs.Prelude.{slice_get, None}
 use Rattle.span_id.specs.declared.level.Level.TheVariants.{Error, Trace}
 use Rattle.span_id.specs.Meta.{PlainMeta}
 use Rattle.span_core.specs.Core.{CoreView}
@@ -10,7 +10,7 @@ use Rattle.span_ffi.specs.declared.data.SpanField.{SpanField}
 use Rattle.span_border.specs.declared.status.Status.{Status}
 use Rattle.span_border.specs.declared.status.Status.TheVariants.{Done, NoSuchCallsite}
 use Rattle.span_ffi.specs.Data.{said_level, said_parent, said_meta, said_fields, behind_meta}
-use Rattle.span_ffi.specs.Registry.{OnCore, OnCallsites}
+use Rattle.span_ffi.specs.Registry.{RegistryView, OnCore, OnCallsites}
 use Rattle.span_ffi.specs.Calls.{HasWorker}
 use Rattle.span_ffi.specs.Callsites.{AtCallsite}
 
@@ -76,12 +76,14 @@ Stays old status new = new ≡ old
 abbrev Empties : List PlainMeta → Status → List PlainMeta → Type 0
 Empties old status new = new ≡ []
 
-on_core : (core : CoreView) → OnCore Stays (record { core = core; callsites = sites }) Done (record { core = core; callsites = sites })
+abbrev with : CoreView → List PlainMeta → RegistryView
+with core callsites = record { core = core; callsites = callsites; headings = None }
+
+on_core : (core : CoreView) → OnCore Stays (with core sites) Done (with core sites)
 on_core core = (refl, refl)
 
-drops_callsites : (core : CoreView) → OnCore Stays (record { core = core; callsites = sites }) Done (record { core = core; callsites = [] }) → ⊥
+drops_callsites : (core : CoreView) → OnCore Stays (with core sites) Done (with core []) → ⊥
 drops_callsites core does = let left = ap length does.1 in omega (arith, left)
 
-on_callsites : (core : CoreView)
-    → OnCallsites Empties (record { core = core; callsites = sites }) Done (record { core = core; callsites = [] })
-on_callsites core = (refl, refl)
+on_callsites : (core : CoreView) → OnCallsites Empties (with core sites) Done (with core [])
+on_callsites core = (refl, refl, refl)

@@ -2,6 +2,7 @@ pub mod Alike
 pub mod Firsts
 pub mod Found
 pub mod Given
+pub mod HeadingsKept
 pub mod Packing
 pub mod Read
 pub mod Told
@@ -10,3 +11,4 @@ mod DataExamples
 mod DetailsExamples
 mod NotesExamples
 mod TellingExamples
+mod HeadingsExamples

@@ -1,6 +1,8 @@
 pub mod Abi
 pub mod Data
 pub mod Said
+pub mod Headings
+pub mod HeadingReader
 pub mod Registry
 pub mod Opening
 pub mod Calls
@@ -10,7 +12,11 @@ pub mod Follows
 pub mod Holding
 pub mod Details
 pub mod Callsites
+pub mod CallsiteOf
 pub mod Wants
 pub mod Lines
 pub mod Notes
+pub mod Drain
+pub mod NoteHeadings
+pub mod SayingHeadings
 pub mod inside

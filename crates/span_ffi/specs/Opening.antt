@@ -1,5 +1,5 @@
 -- What the data of a new registry say, and what is made of them.
-use Rattle.std.specs.Prelude.{◌≡◌, ℕ, ◌<◌, ◌≤◌, ◌==◌, ◌||◌, true, if◌then◌else◌, List, [], ◌∷◌, length, take, drop, map, Option, Some, None, is_some, IsSomeAnd}
+use Rattle.std.specs.Prelude.{◌≡◌, ℕ, ◌+◌, ◌*◌, ◌<◌, ◌≤◌, ◌==◌, ◌||◌, Bool, true, false, if◌then◌else◌, List, [], ◌∷◌, length, take, drop, map, Option, Some, None, is_some, IsSomeAnd}
 use Rattle.span_id.specs.declared.fault.Fault.TheVariants.{TooManyLayers, BadLimits, Memory}
 use Rattle.span_id.specs.declared.limits.Limits.{Limits}
 use Rattle.span_id.specs.Limits.{AreInRange}
@@ -9,7 +9,6 @@ use Rattle.span_layers.specs.declared.style.TheConstants.FmtSpan.{FULL}
 use Rattle.span_layers.specs.FmtSpan.{bits_of}
 use Rattle.span_layers.specs.Rule.{Pair}
 use Rattle.span_layers.specs.Filter.{Filter}
-use Rattle.span_outlet.specs.LineReader.{LineReaderView}
 use Rattle.span_core.specs.World.{empty_world}
 use Rattle.span_ffi.specs.declared.data.SpanLimits.{SpanLimits}
 use Rattle.span_ffi.specs.declared.data.SpanLayer.{SpanLayer}
@@ -18,7 +17,10 @@ use Rattle.span_border.specs.declared.status.Status.{Status}
 use Rattle.span_border.specs.declared.status.Status.TheVariants.{Done, Refused, BadData, HandleInUse}
 use Rattle.span_ffi.specs.Data.{BeginsWithText, said_level}
 use Rattle.span_ffi.specs.Said.{SaidRegistry}
+use Rattle.span_ffi.specs.Headings.{HeadingsView}
+use Rattle.span_ffi.specs.HeadingReader.{HeadingReaderView}
 use Rattle.span_ffi.specs.Registry.{RegistryView}
+use Rattle.span_ffi.specs.Drain.{ReaderView}
 
 -- the limits that the numbers say
 abbrev pub said_limits : SpanLimits → Limits
@@ -75,17 +77,24 @@ said_form number = if number == 0 then Compact else Json
 abbrev pub said_forms : List SpanLayer → List Form
 said_forms layers = map (λ layer. said_form layer.form) layers
 
+-- both ends of a new ring of headings, where any are kept: two places for each of the other ring, and one more
+abbrev pub AreNewHeadings : Bool → ℕ → Option HeadingsView → Option HeadingReaderView → Type 0
+AreNewHeadings false ring headings reader = (headings ≡ None) × (reader ≡ None)
+AreNewHeadings true ring headings reader = IsSomeAnd headings (λ new. IsSomeAnd reader (λ other.
+    (other.name.places ≡ 2 * ring + 1) × (other ≡ record { name = other.name; looks = 0; received = []; standing = [] })
+    × (new ≡ record { name = other.name; sent = []; free = 2 * ring + 1; stamp = 0; kinds = []; lost = 0 })))
+
 -- A new registry and the other end of its ring: the limits are in their ranges, the layers are few enough, and the data
 -- say them. The ring has as many places as the limits say. No span is open, there are no callsites, nothing was sent,
 -- and nothing was taken or given out.
 pub record AreNew
-    (limits : SpanLimits) (layers : List SpanLayer) (rules : List SpanRule) (bytes : List ℕ)
-    (registry : RegistryView) (reader : LineReaderView)
+    (keeps : Bool) (limits : SpanLimits) (layers : List SpanLayer) (rules : List SpanRule) (bytes : List ℕ)
+    (registry : RegistryView) (reader : ReaderView)
     : Type 0 where
   pub in_range : AreInRange (said_limits limits)
   pub few : length layers ≤ 64
   pub said : AreLayers layers rules bytes
-  pub places : reader.name.places ≡ limits.ring
+  pub places : reader.lines.name.places ≡ limits.ring
   pub core_is : registry.core ≡ record {
     limits = said_limits limits;
     rules = said_filters layers rules bytes;
@@ -93,11 +102,12 @@ pub record AreNew
     sent = [];
     times_full = 0;
     forms = [];
-    name = Some reader.name;
+    name = Some reader.lines.name;
   }
   pub callsites : registry.callsites ≡ []
-  pub reader_is : reader ≡ record {
-    name = reader.name;
+  pub headings : AreNewHeadings keeps limits.ring registry.headings reader.headings
+  pub reader_is : reader.lines ≡ record {
+    name = reader.lines.name;
     looks = 0;
     forms = said_forms layers;
     taken = [];
@@ -116,17 +126,22 @@ WhyNone limits layers rules bytes (Refused Memory) =
     AreInRange (said_limits limits) × (length layers ≤ 64) × AreLayers layers rules bytes
 WhyNone limits layers rules bytes _ = ⊥
 
--- Two empty handles get a new registry and the other end of its ring; else both stay as they were, and the status says
--- why: a handle isn't empty, or there is no new registry.
-abbrev pub Opens : SaidRegistry → Option RegistryView → Option LineReaderView
-    → Option Status → Option RegistryView → Option LineReaderView → Type 0
-Opens said registry reader None registry' reader' = ⊥
-Opens said registry reader (Some Done) registry' reader' =
+-- Two empty handles get a new registry and the other end of its ring, which keep headings or not; else both stay as they
+-- were, and the status says why: a handle isn't empty, or there is no new registry.
+abbrev pub OpensKeeping : Bool → SaidRegistry → Option RegistryView → Option ReaderView
+    → Option Status → Option RegistryView → Option ReaderView → Type 0
+OpensKeeping keeps said registry reader None registry' reader' = ⊥
+OpensKeeping keeps said registry reader (Some Done) registry' reader' =
     (registry ≡ None) × (reader ≡ None)
     × IsSomeAnd registry' (λ new. IsSomeAnd reader' (λ other.
-    AreNew said.limits said.layers said.rules said.texts new other))
-Opens said registry reader (Some HandleInUse) registry' reader' =
+    AreNew keeps said.limits said.layers said.rules said.texts new other))
+OpensKeeping keeps said registry reader (Some HandleInUse) registry' reader' =
     ((is_some registry || is_some reader) ≡ true) × (registry' ≡ registry) × (reader' ≡ reader)
-Opens said registry reader (Some status) registry' reader' =
+OpensKeeping keeps said registry reader (Some status) registry' reader' =
     (registry ≡ None) × (reader ≡ None) × WhyNone said.limits said.layers said.rules said.texts status
     × (registry' ≡ registry) × (reader' ≡ reader)
+
+-- the same where no headings are kept
+abbrev pub Opens : SaidRegistry → Option RegistryView → Option ReaderView
+    → Option Status → Option RegistryView → Option ReaderView → Type 0
+Opens = OpensKeeping false

@@ -5,3 +5,5 @@ pub mod Parents
 pub mod Adding
 pub mod Giving
 pub mod Packing
+pub mod HeadingsKept
+pub mod Origins

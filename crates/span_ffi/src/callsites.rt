@@ -1,8 +1,10 @@
 //! Places of a program that make spans or tell events, each with a meta that was handed over once.
-ghost use Rattle.std.specs.Prelude.{◌≡◌, ◌<◌, ◌↔◌, ◌^◌, ◌++◌, ◌∷◌, [], length, slice_get, IsSome, IfSome, OnOk, OnErr};
+ghost use Rattle.std.specs.Prelude.{◌≡◌, ◌<◌, ◌↔◌, ◌^◌, ◌++◌, ◌∷◌, [], length, slice_get, IsTrue, IsSome, IfSome, IfNone, OnOk, OnErr};
 ghost use Rattle.std.specs.Option.{option_map};
+ghost use Rattle.span_id.specs.Meta.{plain_meta};
+ghost use Rattle.span_ffi.specs.CallsiteOf.{LacksMeta, IsFirstWith};
 
-use span_id::SharedMeta;
+use span_id::{Meta, SharedMeta};
 use std::alloc::{AllocError, Global};
 use std::marker::Model;
 
@@ -13,12 +15,15 @@ pub struct Callsites {
 }
 
 impl Model for Callsites {
-    ghost use Rattle.std.specs.Prelude.{List};
+    ghost use Rattle.std.specs.Prelude.{◌≤◌, ◌^◌, List, length};
     ghost use Rattle.span_id.specs.Meta.{PlainMeta};
 
     ghost Value = { List PlainMeta };
 
     ghost view = { λ callsites. callsites.metas.items };
+
+    // Each has a number.
+    ghost invariant = { λ callsites. length callsites.metas.items ≤ 2 ^ 32 };
 }
 
 impl Callsites {
@@ -39,8 +44,9 @@ impl Callsites {
         u32::try_from(self.metas.len()).ok()
     }
 
-    /// One more, behind the others.
+    /// One more, behind the others, where a number is left for it.
     pub fn add(&mut self, meta: SharedMeta) -> Result<(), AllocError>
+        requires { length self.old < 2 ^ 32 }
         ensures added { OnOk result (self.new ≡ self.old ++ meta ∷ []) }
         ensures unchanged { OnErr result (self.new ≡ self.old) }
     {
@@ -54,4 +60,24 @@ impl Callsites {
     {
         self.metas.get(number as usize)
     }
+
+    /// The number of the first callsite with the same meta. None: no callsite has it.
+    pub fn first_like(&self, meta: &Meta) -> Option<u32>
+        ensures first { IfSome result (λ number. IsFirstWith (plain_meta meta.now) number self.now) }
+        ensures none { IfNone result (LacksMeta (plain_meta meta.now) self.now) }
+    {
+        for (number, other) in self.metas.iter().enumerate() {
+            if is_same(other.as_meta(), meta) {
+                return Some(number as u32);
+            }
+        }
+        None
+    }
+}
+
+// Whether two metas have the same level, name and target.
+fn is_same(first: &Meta, second: &Meta) -> bool
+    ensures { IsTrue result ↔ (plain_meta first.now ≡ plain_meta second.now) }
+{
+    first == second
 }

@@ -95,7 +95,21 @@ pub struct SpanNote {
     pub message_len: u32,
 }
 
-/// How many bytes each of the other structs of numbers takes, but for notes.
+/// What a note doesn't tell of its call: the stamp that was said of it; what the span or the event hangs under, or 0; 1
+/// where that was made at a callsite, else 0, and which; its level; and how long its name and its target are.
+#[repr(C)]
+#[derive(Clone, Copy)]
+pub struct SpanHeading {
+    pub stamp: u64,
+    pub parent: u64,
+    pub has_callsite: u32,
+    pub callsite: u32,
+    pub level: u32,
+    pub name_len: u32,
+    pub target_len: u32,
+}
+
+/// How many bytes each of the other structs of numbers takes, but for notes and headings.
 #[repr(C)]
 #[derive(Clone, Copy)]
 pub struct SpanSizes {

@@ -1,7 +1,7 @@
 //! The handle of a reader: one word, which owns a reader where it isn't null.
 ghost use Rattle.std.specs.Prelude.{◌≡◌, Some, None, Option};
 ghost use Rattle.span_border.specs.inside.HandleOwned.{handle_owns};
-ghost use Rattle.span_outlet.specs.LineReader.{LineReaderView};
+ghost use Rattle.span_ffi.specs.Drain.{ReaderView};
 ghost use Rattle.span_ffi.specs.inside.ReaderHeld.{the_row, held_coded};
 
 use crate::reader::Reader;
@@ -15,7 +15,7 @@ use std::marker::Model;
 pub struct SpanDrain {
     at: *mut u8,
     alloc: Global,
-    pub ghost held: { Option LineReaderView } by { held_coded },
+    pub ghost held: { Option ReaderView } by { held_coded },
 }
 
 impl Model for SpanDrain {

@@ -2,6 +2,7 @@
 
 mod abi;
 mod callers;
+mod callsite_of;
 mod callsites;
 mod closing;
 mod details;
@@ -10,7 +11,10 @@ mod entries;
 mod events;
 mod follows;
 mod handles;
+mod headings;
 mod holding;
+mod keeping;
+mod note_headings;
 mod notes;
 mod packing;
 mod queries;

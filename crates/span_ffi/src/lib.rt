@@ -7,6 +7,8 @@ mod callsites;
 mod data;
 mod drain_handle;
 mod exports;
+mod heading_reader;
+mod headings;
 mod opening;
 mod reader;
 mod reading;
@@ -15,8 +17,8 @@ mod registry_handle;
 mod valid;
 
 pub use data::{
-    SpanCounts, SpanField, SpanFound, SpanHeld, SpanLayer, SpanLimits, SpanMeta, SpanNote,
-    SpanRule, SpanSizes,
+    SpanCounts, SpanField, SpanFound, SpanHeading, SpanHeld, SpanLayer, SpanLimits, SpanMeta,
+    SpanNote, SpanRule, SpanSizes,
 };
 pub use drain_handle::SpanDrain;
 pub use registry_handle::SpanRegistry;

@@ -12,10 +12,12 @@ ghost use Rattle.span_layers.specs.Layers.{filters_in, forms_in};
 ghost use Rattle.span_core.specs.World.{empty_world};
 ghost use Rattle.span_ffi.specs.Data.{BeginsWithText, said_level};
 ghost use Rattle.span_ffi.specs.Opening.{AreRules, said_pairs, behind_rules, said_form, IsLayer, AreLayers};
-ghost use Rattle.span_ffi.specs.Opening.{said_filters, said_forms, said_limits, AreNew, WhyNone};
+ghost use Rattle.span_ffi.specs.Opening.{said_filters, said_forms, said_limits, AreNew, AreNewHeadings, WhyNone};
 
 use crate::callsites::Callsites;
 use crate::data::{SpanLayer, SpanLimits, SpanRule};
+use crate::heading_reader::HeadingReader;
+use crate::headings::Headings;
 use crate::reader::Reader;
 use crate::reading::{read_level, read_text, unread};
 use crate::registry::Registry;
@@ -202,12 +204,31 @@ fn read_limits(limits: &SpanLimits) -> Result<Checked, Fault>
     limits.check()
 }
 
+// Both ends of the headings' ring, where any are kept. While the reader takes the batches that stand in the other ring, as
+// many may come there, and their headings here, where all of those batches stand still, and one that was on its way at
+// the reader's last look. The only error is `Memory`.
+fn make_headings(
+    alloc: Global,
+    checked: &Checked,
+    keeps: bool,
+) -> Result<(Option<Headings>, Option<HeadingReader>), Fault>
+    ensures new { IfOk result (λ ends. AreNewHeadings keeps checked.now.ring ends.0 ends.1) }
+    ensures memory { IfErr result (λ fault. fault ≡ Fault.Memory) }
+{
+    if !keeps {
+        return Ok((None, None));
+    }
+    let (headings, reader) = Headings::pair(alloc, 2 * checked.limits().ring as usize + 1)?;
+    Ok((Some(headings), Some(reader)))
+}
+
 // A registry with this end of a ring, in a box. The only error is `Memory`.
 fn box_registry(
     alloc: Global,
     checked: &Checked,
     filters: Filters<ByRule>,
     ring: Ring,
+    headings: Option<Headings>,
 ) -> Result<Box<Registry>, Fault>
     requires { ring.sent ≡ [] }
     ensures registry { IfOk result (λ boxed. boxed.value ≡ record {
@@ -221,12 +242,20 @@ fn box_registry(
         name = Some ring.name;
       };
       callsites = [];
+      headings = headings;
     }) }
     ensures memory { IfErr result (λ fault. fault ≡ Fault.Memory) }
 {
     let core = Core::new(alloc, checked, filters, ring)?;
     let callsites = Callsites::new(alloc);
-    Ok(Box::new(alloc, Registry { core, callsites })?)
+    Ok(Box::new(
+        alloc,
+        Registry {
+            core,
+            callsites,
+            headings,
+        },
+    )?)
 }
 
 // A registry with these layers, and the other end of its ring, each in a box. The only error is `Memory`.
@@ -234,6 +263,7 @@ fn make(
     alloc: Global,
     checked: &Checked,
     layers: PlainLayers,
+    keeps: bool,
 ) -> Result<(Box<Registry>, Box<Reader>), Fault>
     ensures core { IfOk result (λ made. made.0.value.core ≡ record {
       limits = checked.now;
@@ -242,11 +272,11 @@ fn make(
       sent = [];
       times_full = 0;
       forms = [];
-      name = Some made.1.value.name;
+      name = Some made.1.value.lines.name;
     }) }
     ensures callsites { IfOk result (λ made. made.0.value.callsites ≡ []) }
-    ensures reader { IfOk result (λ made. made.1.value ≡ record {
-      name = made.1.value.name;
+    ensures reader { IfOk result (λ made. made.1.value.lines ≡ record {
+      name = made.1.value.lines.name;
       looks = 0;
       forms = forms_in layers;
       taken = [];
@@ -254,7 +284,9 @@ fn make(
       waiting = [];
       missed = 0;
     }) }
-    ensures places { IfOk result (λ made. made.1.value.name.places ≡ checked.now.ring) }
+    ensures places { IfOk result (λ made. made.1.value.lines.name.places ≡ checked.now.ring) }
+    ensures headings { IfOk result (λ made.
+        AreNewHeadings keeps checked.now.ring made.0.value.headings made.1.value.headings) }
     ensures memory { IfErr result (λ fault. fault ≡ Fault.Memory) }
 {
     let Ok((ring, tap)) = Ring::pair(alloc, checked) else {
@@ -262,25 +294,33 @@ fn make(
     };
     let (filters, formatting) = layers.split();
     let lines = LineReader::new(alloc, tap, formatting);
-    let Ok(registry) = box_registry(alloc, checked, filters, ring) else {
+    let (headings, other) = make_headings(alloc, checked, keeps)?;
+    let Ok(registry) = box_registry(alloc, checked, filters, ring, headings) else {
         return Err(Fault::Memory);
     };
-    let Ok(reader) = Box::new(alloc, Reader { lines }) else {
+    let Ok(reader) = Box::new(
+        alloc,
+        Reader {
+            lines,
+            headings: other,
+        },
+    ) else {
         return Err(Fault::Memory);
     };
     Ok((registry, reader))
 }
 
-/// A new registry and the other end of its ring, each in a box.
+/// A new registry and the other end of its ring, each in a box, which keep headings or not.
 pub(crate) fn open(
     alloc: Global,
     limits: &SpanLimits,
     layers: &[SpanLayer],
     rules: &[SpanRule],
     bytes: &[u8],
+    keeps: bool,
 ) -> Result<(Box<Registry>, Box<Reader>), Status>
     ensures new { IfOk result (λ made.
-        AreNew limits.now layers.now rules.now bytes.now made.0.value made.1.value) }
+        AreNew keeps limits.now layers.now rules.now bytes.now made.0.value made.1.value) }
     ensures none { IfErr result (λ status. WhyNone limits.now layers.now rules.now bytes.now status) }
 {
     let checked = match read_limits(limits) {
@@ -291,7 +331,7 @@ pub(crate) fn open(
         return Err(Status::Refused(Fault::TooManyLayers));
     }
     match read_layers(alloc, layers, rules, bytes) {
-        Some(read) => make(alloc, &checked, read).map_err(Status::Refused),
+        Some(read) => make(alloc, &checked, read, keeps).map_err(Status::Refused),
         None => Err(unread(are_layers(layers, rules, bytes))),
     }
 }

@@ -7,7 +7,7 @@ ghost use Rattle.span_core.specs.Step.{closed_by_exit};
 ghost use Rattle.span_core.specs.Core.{IsAccepted, IsRefused};
 ghost use Rattle.span_border.specs.Status.{meant};
 ghost use Rattle.span_border.specs.Ends.{OnHeld, Keeps};
-ghost use Rattle.span_ffi.specs.Registry.{OnCore};
+ghost use Rattle.span_ffi.specs.Registry.{OnCore, HasPlainHeading};
 ghost use Rattle.span_ffi.specs.Closing.{WritesFirst, AnswersClosed, ExitsClosing, ReleasesClosing};
 
 use crate::exports::callers::{has_worker, id_of};
@@ -117,11 +117,14 @@ pub extern "C" fn span_registry_exit_closing(
         (meant result) registry.new.held }
     ensures into { Keeps (meant result) into.old into.new }
     ensures len { Keeps (meant result) len.old len.new }
+    ensures heading { OnHeld registry.old.held HasPlainHeading (meant result) registry.new.held }
 {
     let Some(mut held) = registry.take(alloc) else {
         return Status::EmptyHandle.number();
     };
+    let calls = held.core.calls();
     let status = exit_closing(&mut held.core, worker, id, into, len);
+    held.keep_heading(alloc, status, calls);
     registry.put(held);
     status.number()
 }
@@ -190,11 +193,14 @@ pub extern "C" fn span_registry_try_close_closing(
         (meant result) registry.new.held }
     ensures into { Keeps (meant result) into.old into.new }
     ensures len { Keeps (meant result) len.old len.new }
+    ensures heading { OnHeld registry.old.held HasPlainHeading (meant result) registry.new.held }
 {
     let Some(mut held) = registry.take(alloc) else {
         return Status::EmptyHandle.number();
     };
+    let calls = held.core.calls();
     let status = try_close_closing(&mut held.core, worker, id, into, len);
+    held.keep_heading(alloc, status, calls);
     registry.put(held);
     status.number()
 }

@@ -5,7 +5,7 @@ ghost use Rattle.span_forest.specs.Node.{node_of};
 ghost use Rattle.span_border.specs.Status.{meant};
 ghost use Rattle.span_border.specs.Ends.{OnHeld, Keeps};
 ghost use Rattle.span_border.specs.Buffers.{KeepsNumbers};
-ghost use Rattle.span_ffi.specs.Registry.{OnCore};
+ghost use Rattle.span_ffi.specs.Registry.{AsksCore};
 ghost use Rattle.span_ffi.specs.Details.{are_short, AnswersSaid, AnswersWhatWasSaid};
 
 use crate::data::{SpanField, SpanMeta};
@@ -107,7 +107,7 @@ pub extern "C" fn span_registry_details(
     into: &mut [u8],
     len: &mut usize,
 ) -> u32
-    ensures said { OnHeld registry.old.held (OnCore (AnswersWhatWasSaid id meta.new
+    ensures said { OnHeld registry.old.held (AsksCore (AnswersWhatWasSaid id meta.new
         (record { old = fields.old; new = fields.new; len = count.new })
         (record { old = into.old; new = into.new; len = len.new }))) (meant result) registry.new.held }
     ensures meta { Keeps (meant result) meta.old meta.new }

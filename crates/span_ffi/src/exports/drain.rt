@@ -3,6 +3,7 @@ ghost use Rattle.std.specs.Prelude.{◌≡◌, Some, None, is_some, if◌then◌
 ghost use Rattle.span_border.specs.Status.{meant};
 ghost use Rattle.span_border.specs.Ends.{OnHeld, Keeps};
 ghost use Rattle.span_border.specs.Buffers.{KeepsNumbers};
+ghost use Rattle.span_ffi.specs.Drain.{OnLines, AsksLines};
 ghost use Rattle.span_ffi.specs.Lines.{GivesLine, SkipsBatch, CountsLines};
 ghost use Rattle.span_ffi.specs.inside.Giving.{GivesFirst};
 
@@ -52,7 +53,8 @@ pub extern "C" fn span_drain_line(
     into: &mut [u8],
     len: &mut usize,
 ) -> u32
-    ensures line { OnHeld drain.old.held (GivesLine layer.new into.old into.new len.new) (meant result) drain.new.held }
+    ensures line { OnHeld drain.old.held (OnLines (GivesLine layer.new into.old into.new len.new)) (meant result)
+        drain.new.held }
     ensures layer { Keeps (meant result) layer.old layer.new }
     ensures into { Keeps (meant result) into.old into.new }
     ensures len { KeepsNumbers (meant result) len.old len.new }
@@ -61,6 +63,7 @@ pub extern "C" fn span_drain_line(
         return Status::EmptyHandle.number();
     };
     let status = give_line(&mut held.lines, layer, into, len);
+    held.take_headings();
     drain.put(held);
     status.number()
 }
@@ -85,13 +88,14 @@ pub extern "C" fn span_drain_skip_batch(
     drain: &mut SpanDrain,
     skipped: &mut usize,
 ) -> u32
-    ensures batch { OnHeld drain.old.held (SkipsBatch skipped.new) (meant result) drain.new.held }
+    ensures batch { OnHeld drain.old.held (OnLines (SkipsBatch skipped.new)) (meant result) drain.new.held }
     ensures kept { Keeps (meant result) skipped.old skipped.new }
 {
     let Some(mut held) = drain.take(alloc) else {
         return Status::EmptyHandle.number();
     };
     let status = skip_batch(&mut held.lines, skipped);
+    held.take_headings();
     drain.put(held);
     status.number()
 }
@@ -104,7 +108,8 @@ pub extern "C" fn span_drain_counts(
     batches: &mut u64,
     missed: &mut u64,
 ) -> u32
-    ensures counts { OnHeld drain.old.held (CountsLines batches.new missed.new) (meant result) drain.new.held }
+    ensures counts { OnHeld drain.old.held (AsksLines (CountsLines batches.new missed.new)) (meant result)
+        drain.new.held }
     ensures batches { Keeps (meant result) batches.old batches.new }
     ensures missed { Keeps (meant result) missed.old missed.new }
 {

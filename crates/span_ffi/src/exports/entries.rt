@@ -1,7 +1,7 @@
 //! The calls that change a worker's stack.
 ghost use Rattle.std.specs.Prelude.{Some};
 ghost use Rattle.span_border.specs.Status.{meant};
-ghost use Rattle.span_ffi.specs.Registry.{OnCore};
+ghost use Rattle.span_ffi.specs.Registry.{OnCore, HasPlainHeading};
 ghost use Rattle.span_border.specs.Ends.{OnHeld, Keeps};
 ghost use Rattle.span_ffi.specs.Calls.{Enters, Exits};
 
@@ -42,11 +42,14 @@ pub extern "C" fn span_registry_enter(
 ) -> u32
     ensures entered { OnHeld registry.old.held (OnCore (Enters worker id first.new)) (meant result) registry.new.held }
     ensures kept { Keeps (meant result) first.old first.new }
+    ensures heading { OnHeld registry.old.held HasPlainHeading (meant result) registry.new.held }
 {
     let Some(mut held) = registry.take(alloc) else {
         return Status::EmptyHandle.number();
     };
+    let calls = held.core.calls();
     let status = enter(&mut held.core, worker, id, first);
+    held.keep_heading(alloc, status, calls);
     registry.put(held);
     status.number()
 }
@@ -81,11 +84,14 @@ pub extern "C" fn span_registry_exit(
 ) -> u32
     ensures exited { OnHeld registry.old.held (OnCore (Exits worker id closed.new)) (meant result) registry.new.held }
     ensures kept { Keeps (meant result) closed.old closed.new }
+    ensures heading { OnHeld registry.old.held HasPlainHeading (meant result) registry.new.held }
 {
     let Some(mut held) = registry.take(alloc) else {
         return Status::EmptyHandle.number();
     };
+    let calls = held.core.calls();
     let status = exit(&mut held.core, worker, id, closed);
+    held.keep_heading(alloc, status, calls);
     registry.put(held);
     status.number()
 }

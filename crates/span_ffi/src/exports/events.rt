@@ -1,13 +1,13 @@
 //! What a worker tells: more fields of a span, and events.
-ghost use Rattle.std.specs.Prelude.{◌≡◌, ◌<◌, if◌then◌else◌, take, drop, IfSome, OnSome};
+ghost use Rattle.std.specs.Prelude.{◌≡◌, ◌<◌, Some, None, if◌then◌else◌, take, drop, IfSome, OnSome};
 ghost use Rattle.std.specs.Arc.{arc_str_bytes};
 ghost use Rattle.span_id.specs.Meta.{plain_fields};
 ghost use Rattle.span_outlet.specs.Request.{event, told};
 ghost use Rattle.span_core.specs.Core.{are_keys};
 ghost use Rattle.span_border.specs.Status.{meant};
-ghost use Rattle.span_ffi.specs.Registry.{OnCore, WithCallsites};
+ghost use Rattle.span_ffi.specs.Registry.{OnCore, WithCallsites, HasPlainHeading, HasEventHeading, HasEventHeadingAt};
 ghost use Rattle.span_border.specs.Ends.{OnHeld};
-ghost use Rattle.span_ffi.specs.Data.{IsEventAt, said_fields};
+ghost use Rattle.span_ffi.specs.Data.{IsEventAt, said_meta, said_fields};
 ghost use Rattle.span_ffi.specs.Calls.{Records, TellsEvent, AnswersData};
 ghost use Rattle.span_ffi.specs.Callsites.{TellsAt};
 
@@ -78,13 +78,16 @@ pub extern "C" fn span_registry_record(
     fields: &[SpanField],
     texts: &[u8],
 ) -> u32
-    ensures { OnHeld registry.old.held (OnCore (Records worker id fields.now texts.now)) (meant result)
+    ensures recorded { OnHeld registry.old.held (OnCore (Records worker id fields.now texts.now)) (meant result)
         registry.new.held }
+    ensures heading { OnHeld registry.old.held HasPlainHeading (meant result) registry.new.held }
 {
     let Some(mut held) = registry.take(alloc) else {
         return Status::EmptyHandle.number();
     };
+    let calls = held.core.calls();
     let status = record(alloc, &mut held.core, worker, id, fields, texts);
+    held.keep_heading(alloc, status, calls);
     registry.put(held);
     status.number()
 }
@@ -184,7 +187,7 @@ pub extern "C" fn span_registry_event(
     fields: &[SpanField],
     texts: &[u8],
 ) -> u32
-    ensures { OnHeld registry.old.held (OnCore (TellsEvent (record {
+    ensures told { OnHeld registry.old.held (OnCore (TellsEvent (record {
       worker = worker;
       parent_kind = 1;
       parent = 0;
@@ -193,6 +196,8 @@ pub extern "C" fn span_registry_event(
       fields = fields.now;
       texts = texts.now;
     }))) (meant result) registry.new.held }
+    ensures heading { OnHeld registry.old.held (HasEventHeading (said_meta meta.now texts.now))
+        (meant result) registry.new.held }
 {
     span_registry_event_in(
         alloc,
@@ -221,7 +226,7 @@ pub extern "C" fn span_registry_event_in(
     fields: &[SpanField],
     texts: &[u8],
 ) -> u32
-    ensures { OnHeld registry.old.held (OnCore (TellsEvent (record {
+    ensures told { OnHeld registry.old.held (OnCore (TellsEvent (record {
       worker = worker;
       parent_kind = parent_kind;
       parent = parent;
@@ -230,10 +235,13 @@ pub extern "C" fn span_registry_event_in(
       fields = fields.now;
       texts = texts.now;
     }))) (meant result) registry.new.held }
+    ensures heading { OnHeld registry.old.held (HasEventHeading (said_meta meta.now texts.now))
+        (meant result) registry.new.held }
 {
     let Some(mut held) = registry.take(alloc) else {
         return Status::EmptyHandle.number();
     };
+    let calls = held.core.calls();
     let status = event(
         alloc,
         &mut held.core,
@@ -245,6 +253,7 @@ pub extern "C" fn span_registry_event_in(
         fields,
         texts,
     );
+    held.keep_event_heading(alloc, status, calls, meta, texts);
     registry.put(held);
     status.number()
 }
@@ -303,7 +312,7 @@ pub extern "C" fn span_registry_event_at(
     fields: &[SpanField],
     texts: &[u8],
 ) -> u32
-    ensures { OnHeld registry.old.held (WithCallsites (TellsAt (record {
+    ensures told { OnHeld registry.old.held (WithCallsites (TellsAt (record {
       worker = worker;
       parent_kind = 1;
       parent = 0;
@@ -312,6 +321,7 @@ pub extern "C" fn span_registry_event_at(
       fields = fields.now;
       texts = texts.now;
     }))) (meant result) registry.new.held }
+    ensures heading { OnHeld registry.old.held (HasEventHeadingAt callsite) (meant result) registry.new.held }
 {
     span_registry_event_in_at(
         alloc,
@@ -340,7 +350,7 @@ pub extern "C" fn span_registry_event_in_at(
     fields: &[SpanField],
     texts: &[u8],
 ) -> u32
-    ensures { OnHeld registry.old.held (WithCallsites (TellsAt (record {
+    ensures told { OnHeld registry.old.held (WithCallsites (TellsAt (record {
       worker = worker;
       parent_kind = parent_kind;
       parent = parent;
@@ -349,11 +359,17 @@ pub extern "C" fn span_registry_event_in_at(
       fields = fields.now;
       texts = texts.now;
     }))) (meant result) registry.new.held }
+    ensures heading { OnHeld registry.old.held (HasEventHeadingAt callsite) (meant result) registry.new.held }
 {
     let Some(mut held) = registry.take(alloc) else {
         return Status::EmptyHandle.number();
     };
-    let Registry { core, callsites } = &mut *held;
+    let calls = held.core.calls();
+    let Registry {
+        core,
+        callsites,
+        ..
+    } = &mut *held;
     let status = tell_at(
         alloc,
         core,
@@ -366,6 +382,7 @@ pub extern "C" fn span_registry_event_in_at(
         fields,
         texts,
     );
+    held.keep_event_heading_at(alloc, status, calls, callsite);
     registry.put(held);
     status.number()
 }

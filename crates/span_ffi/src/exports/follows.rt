@@ -2,7 +2,7 @@
 ghost use Rattle.std.specs.Prelude.{◌≡◌, [], ◌∷◌, IfOk};
 ghost use Rattle.span_border.specs.Status.{meant};
 ghost use Rattle.span_border.specs.Ends.{OnHeld};
-ghost use Rattle.span_ffi.specs.Registry.{OnCore};
+ghost use Rattle.span_ffi.specs.Registry.{OnCore, HasPlainHeading};
 ghost use Rattle.span_ffi.specs.Follows.{follows_field, FollowsFrom};
 
 use crate::exports::callers::{has_worker, id_of};
@@ -51,12 +51,15 @@ pub extern "C" fn span_registry_follows_from(
     id: u64,
     followed: u64,
 ) -> u32
-    ensures { OnHeld registry.old.held (OnCore (FollowsFrom worker id followed)) (meant result) registry.new.held }
+    ensures told { OnHeld registry.old.held (OnCore (FollowsFrom worker id followed)) (meant result) registry.new.held }
+    ensures heading { OnHeld registry.old.held HasPlainHeading (meant result) registry.new.held }
 {
     let Some(mut held) = registry.take(alloc) else {
         return Status::EmptyHandle.number();
     };
+    let calls = held.core.calls();
     let status = follows_from(alloc, &mut held.core, worker, id, followed);
+    held.keep_heading(alloc, status, calls);
     registry.put(held);
     status.number()
 }

@@ -1,7 +1,7 @@
 //! The handles of spans.
 ghost use Rattle.std.specs.Prelude.{Some};
 ghost use Rattle.span_border.specs.Status.{meant};
-ghost use Rattle.span_ffi.specs.Registry.{OnCore};
+ghost use Rattle.span_ffi.specs.Registry.{OnCore, HasPlainHeading};
 ghost use Rattle.span_border.specs.Ends.{OnHeld, Keeps};
 ghost use Rattle.span_ffi.specs.Calls.{Clones, Releases};
 
@@ -35,12 +35,15 @@ pub extern "C" fn span_registry_clone_span(
     worker: u32,
     id: u64,
 ) -> u32
-    ensures { OnHeld registry.old.held (OnCore (Clones worker id)) (meant result) registry.new.held }
+    ensures cloned { OnHeld registry.old.held (OnCore (Clones worker id)) (meant result) registry.new.held }
+    ensures heading { OnHeld registry.old.held HasPlainHeading (meant result) registry.new.held }
 {
     let Some(mut held) = registry.take(alloc) else {
         return Status::EmptyHandle.number();
     };
+    let calls = held.core.calls();
     let status = clone_span(&mut held.core, worker, id);
+    held.keep_heading(alloc, status, calls);
     registry.put(held);
     status.number()
 }
@@ -76,11 +79,14 @@ pub extern "C" fn span_registry_try_close(
     ensures released { OnHeld registry.old.held (OnCore (Releases worker id closed.new)) (meant result)
         registry.new.held }
     ensures kept { Keeps (meant result) closed.old closed.new }
+    ensures heading { OnHeld registry.old.held HasPlainHeading (meant result) registry.new.held }
 {
     let Some(mut held) = registry.take(alloc) else {
         return Status::EmptyHandle.number();
     };
+    let calls = held.core.calls();
     let status = try_close(&mut held.core, worker, id, closed);
+    held.keep_heading(alloc, status, calls);
     registry.put(held);
     status.number()
 }

@@ -1,7 +1,7 @@
 //! Which spans are open, and what keeps them open.
 ghost use Rattle.std.specs.Prelude.{Some};
 ghost use Rattle.span_border.specs.Status.{meant};
-ghost use Rattle.span_ffi.specs.Registry.{OnCore};
+ghost use Rattle.span_ffi.specs.Registry.{AsksCore};
 ghost use Rattle.span_border.specs.Ends.{OnHeld, Keeps};
 ghost use Rattle.span_border.specs.Buffers.{KeepsNumbers};
 ghost use Rattle.span_ffi.specs.Holding.{held_as, AnswersOpen, AnswersHolders, AnswersWorkers};
@@ -35,7 +35,7 @@ pub extern "C" fn span_registry_open_ids(
     into: &mut [u64],
     len: &mut usize,
 ) -> u32
-    ensures ids { OnHeld registry.old.held (OnCore (AnswersOpen into.old into.new len.new)) (meant result)
+    ensures ids { OnHeld registry.old.held (AsksCore (AnswersOpen into.old into.new len.new)) (meant result)
         registry.new.held }
     ensures into { Keeps (meant result) into.old into.new }
     ensures len { KeepsNumbers (meant result) len.old len.new }
@@ -85,7 +85,7 @@ pub extern "C" fn span_registry_holders_of(
     into: &mut [SpanHeld],
     len: &mut usize,
 ) -> u32
-    ensures holders { OnHeld registry.old.held (OnCore (AnswersHolders id into.old into.new len.new)) (meant result)
+    ensures holders { OnHeld registry.old.held (AsksCore (AnswersHolders id into.old into.new len.new)) (meant result)
         registry.new.held }
     ensures into { Keeps (meant result) into.old into.new }
     ensures len { KeepsNumbers (meant result) len.old len.new }
@@ -126,7 +126,7 @@ pub extern "C" fn span_registry_workers_inside(
     into: &mut [u32],
     len: &mut usize,
 ) -> u32
-    ensures workers { OnHeld registry.old.held (OnCore (AnswersWorkers id into.old into.new len.new)) (meant result)
+    ensures workers { OnHeld registry.old.held (AsksCore (AnswersWorkers id into.old into.new len.new)) (meant result)
         registry.new.held }
     ensures into { Keeps (meant result) into.old into.new }
     ensures len { KeepsNumbers (meant result) len.old len.new }

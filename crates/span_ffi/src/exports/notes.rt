@@ -5,6 +5,7 @@ ghost use Rattle.span_border.specs.Status.{meant};
 ghost use Rattle.span_border.specs.Ends.{OnHeld, Keeps};
 ghost use Rattle.span_border.specs.Buffers.{KeepsNumbers};
 ghost use Rattle.span_ffi.specs.Details.{are_short};
+ghost use Rattle.span_ffi.specs.Drain.{OnLines};
 ghost use Rattle.span_ffi.specs.Notes.{kind_number, level_number, message_in, note_numbers, AnswersNote, GivesNote};
 ghost use Rattle.span_ffi.specs.inside.Giving.{GivesFirstNote};
 
@@ -166,9 +167,9 @@ pub extern "C" fn span_drain_note(
     into: &mut [u8],
     len: &mut usize,
 ) -> u32
-    ensures note { OnHeld drain.old.held (GivesNote told.new
+    ensures note { OnHeld drain.old.held (OnLines (GivesNote told.new
         (record { old = fields.old; new = fields.new; len = count.new })
-        (record { old = into.old; new = into.new; len = len.new })) (meant result) drain.new.held }
+        (record { old = into.old; new = into.new; len = len.new }))) (meant result) drain.new.held }
     ensures told { KeepsNumbers (meant result) told.old told.new }
     ensures fields { Keeps (meant result) fields.old fields.new }
     ensures count { KeepsNumbers (meant result) count.old count.new }
@@ -179,6 +180,7 @@ pub extern "C" fn span_drain_note(
         return Status::EmptyHandle.number();
     };
     let status = give_note(&mut held.lines, told, fields, count, into, len);
+    held.take_headings();
     drain.put(held);
     status.number()
 }

@@ -1,7 +1,7 @@
 //! Questions, which change nothing.
 ghost use Rattle.std.specs.Prelude.{Some};
 ghost use Rattle.span_border.specs.Status.{meant};
-ghost use Rattle.span_ffi.specs.Registry.{OnCore};
+ghost use Rattle.span_ffi.specs.Registry.{AsksCore};
 ghost use Rattle.span_border.specs.Ends.{OnHeld, Keeps};
 ghost use Rattle.span_ffi.specs.Calls.{Finds, SeesCurrent, Counts};
 ghost use Rattle.span_ffi.specs.Questions.{SeesEntry, AnswersLayers, AnswersTimesFull};
@@ -43,7 +43,7 @@ pub extern "C" fn span_registry_find(
     id: u64,
     found: &mut SpanFound,
 ) -> u32
-    ensures found { OnHeld registry.old.held (OnCore (Finds id found.new)) (meant result) registry.new.held }
+    ensures found { OnHeld registry.old.held (AsksCore (Finds id found.new)) (meant result) registry.new.held }
     ensures kept { Keeps (meant result) found.old found.new }
 {
     let Some(held) = registry.take(alloc) else {
@@ -77,7 +77,7 @@ pub extern "C" fn span_registry_layers_of(
     id: u64,
     layers: &mut u64,
 ) -> u32
-    ensures layers { OnHeld registry.old.held (OnCore (AnswersLayers id layers.new)) (meant result) registry.new.held }
+    ensures layers { OnHeld registry.old.held (AsksCore (AnswersLayers id layers.new)) (meant result) registry.new.held }
     ensures kept { Keeps (meant result) layers.old layers.new }
 {
     let Some(held) = registry.take(alloc) else {
@@ -107,7 +107,7 @@ pub extern "C" fn span_registry_current_span(
     worker: u32,
     id: &mut u64,
 ) -> u32
-    ensures current { OnHeld registry.old.held (OnCore (SeesCurrent worker id.new)) (meant result) registry.new.held }
+    ensures current { OnHeld registry.old.held (AsksCore (SeesCurrent worker id.new)) (meant result) registry.new.held }
     ensures kept { Keeps (meant result) id.old id.new }
 {
     let Some(held) = registry.take(alloc) else {
@@ -143,7 +143,7 @@ pub extern "C" fn span_registry_entry(
     id: &mut u64,
     depth: &mut usize,
 ) -> u32
-    ensures entry { OnHeld registry.old.held (OnCore (SeesEntry worker place id.new depth.new)) (meant result)
+    ensures entry { OnHeld registry.old.held (AsksCore (SeesEntry worker place id.new depth.new)) (meant result)
         registry.new.held }
     ensures id { Keeps (meant result) id.old id.new }
     ensures depth { Keeps (meant result) depth.old depth.new }
@@ -163,7 +163,7 @@ pub extern "C" fn span_registry_times_full(
     registry: &mut SpanRegistry,
     times: &mut u64,
 ) -> u32
-    ensures times { OnHeld registry.old.held (OnCore (AnswersTimesFull times.new)) (meant result) registry.new.held }
+    ensures times { OnHeld registry.old.held (AsksCore (AnswersTimesFull times.new)) (meant result) registry.new.held }
     ensures kept { Keeps (meant result) times.old times.new }
 {
     let Some(held) = registry.take(alloc) else {
@@ -194,7 +194,7 @@ pub extern "C" fn span_registry_counts(
     registry: &mut SpanRegistry,
     counts: &mut SpanCounts,
 ) -> u32
-    ensures counts { OnHeld registry.old.held (OnCore (Counts counts.new)) (meant result) registry.new.held }
+    ensures counts { OnHeld registry.old.held (AsksCore (Counts counts.new)) (meant result) registry.new.held }
     ensures kept { Keeps (meant result) counts.old counts.new }
 {
     let Some(held) = registry.take(alloc) else {

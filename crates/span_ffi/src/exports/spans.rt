@@ -1,9 +1,9 @@
 //! New spans.
-ghost use Rattle.std.specs.Prelude.{◌≡◌, ◌<◌, Some, IfSome, OnSome};
+ghost use Rattle.std.specs.Prelude.{◌≡◌, ◌<◌, Some, None, IfSome, OnSome};
 ghost use Rattle.span_outlet.specs.Request.{new_span};
 ghost use Rattle.span_core.specs.Parent.{parent_found};
 ghost use Rattle.span_border.specs.Status.{meant};
-ghost use Rattle.span_ffi.specs.Registry.{OnCore, WithCallsites};
+ghost use Rattle.span_ffi.specs.Registry.{OnCore, WithCallsites, HasSpanHeading};
 ghost use Rattle.span_border.specs.Ends.{OnHeld, Keeps};
 ghost use Rattle.span_ffi.specs.Data.{IsMeta, AreFields, said_meta, said_fields, behind_meta};
 ghost use Rattle.span_ffi.specs.Calls.{MakesSaid, IsMadeOrRefused};
@@ -123,14 +123,15 @@ pub extern "C" fn span_registry_new_span(
       texts = texts.now;
     }) id.new)) (meant result) registry.new.held }
     ensures kept { Keeps (meant result) id.old id.new }
+    ensures heading { OnHeld registry.old.held (HasSpanHeading None id.new) (meant result) registry.new.held }
 {
     let Some(mut held) = registry.take(alloc) else {
         return Status::EmptyHandle.number();
     };
-    let core = &mut held.core;
+    let calls = held.core.calls();
     let status = make_span(
         alloc,
-        core,
+        &mut held.core,
         worker,
         parent_kind,
         parent,
@@ -139,6 +140,7 @@ pub extern "C" fn span_registry_new_span(
         texts,
         id,
     );
+    held.keep_span_heading(alloc, status, calls, None, *id);
     registry.put(held);
     status.number()
 }
@@ -203,11 +205,17 @@ pub extern "C" fn span_registry_new_span_at(
       texts = texts.now;
     }) id.new)) (meant result) registry.new.held }
     ensures kept { Keeps (meant result) id.old id.new }
+    ensures heading { OnHeld registry.old.held (HasSpanHeading (Some callsite) id.new) (meant result) registry.new.held }
 {
     let Some(mut held) = registry.take(alloc) else {
         return Status::EmptyHandle.number();
     };
-    let Registry { core, callsites } = &mut *held;
+    let calls = held.core.calls();
+    let Registry {
+        core,
+        callsites,
+        ..
+    } = &mut *held;
     let status = make_span_at(
         alloc,
         core,
@@ -220,6 +228,7 @@ pub extern "C" fn span_registry_new_span_at(
         texts,
         id,
     );
+    held.keep_span_heading(alloc, status, calls, Some(callsite), *id);
     registry.put(held);
     status.number()
 }

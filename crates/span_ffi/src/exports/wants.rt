@@ -2,7 +2,7 @@
 ghost use Rattle.std.specs.Prelude.{◌≡◌, Some, IfOk, string_bytes};
 ghost use Rattle.span_border.specs.Status.{meant};
 ghost use Rattle.span_border.specs.Ends.{OnHeld, Keeps};
-ghost use Rattle.span_ffi.specs.Registry.{OnCore, WithCallsites};
+ghost use Rattle.span_ffi.specs.Registry.{AsksCore, AsksWithCallsites};
 ghost use Rattle.span_ffi.specs.Wants.{AnswersWanted, AnswersWantedAt, levels_up_to, AnswersLevels};
 
 use crate::callsites::Callsites;
@@ -56,7 +56,7 @@ pub extern "C" fn span_registry_wants(
     target: &[u8],
     wanted: &mut u32,
 ) -> u32
-    ensures wanted { OnHeld registry.old.held (OnCore (AnswersWanted level target.now wanted.new)) (meant result)
+    ensures wanted { OnHeld registry.old.held (AsksCore (AnswersWanted level target.now wanted.new)) (meant result)
         registry.new.held }
     ensures kept { Keeps (meant result) wanted.old wanted.new }
 {
@@ -87,7 +87,7 @@ pub extern "C" fn span_registry_callsite_wants(
     callsite: u32,
     wanted: &mut u32,
 ) -> u32
-    ensures wanted { OnHeld registry.old.held (WithCallsites (AnswersWantedAt callsite wanted.new)) (meant result)
+    ensures wanted { OnHeld registry.old.held (AsksWithCallsites (AnswersWantedAt callsite wanted.new)) (meant result)
         registry.new.held }
     ensures kept { Keeps (meant result) wanted.old wanted.new }
 {
@@ -124,7 +124,7 @@ pub extern "C" fn span_registry_max_level(
     registry: &mut SpanRegistry,
     levels: &mut u32,
 ) -> u32
-    ensures levels { OnHeld registry.old.held (OnCore (AnswersLevels levels.new)) (meant result) registry.new.held }
+    ensures levels { OnHeld registry.old.held (AsksCore (AnswersLevels levels.new)) (meant result) registry.new.held }
     ensures kept { Keeps (meant result) levels.old levels.new }
 {
     let Some(held) = registry.take(alloc) else {
