@@ -4,3 +4,6 @@ pub mod Begun
 pub mod Turns
 pub mod Ends
 pub mod Loops
+pub mod PlainRuns
+pub mod PlainLexemes
+pub mod PlainSteps

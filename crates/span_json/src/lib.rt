@@ -2,7 +2,11 @@
 #![tactic(auto)]
 
 mod numbers;
+mod plain;
+mod plain_text;
 mod reading;
+mod room;
+mod runs;
 mod value;
 mod values;
 

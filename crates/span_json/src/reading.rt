@@ -1,4 +1,4 @@
-//! Reading a text, in one pass over its tokens.
+//! Reading a text: one without escapes as it comes, any other in one pass over its tokens.
 ghost use Rattle.std.specs.Prelude.{◌≡◌, ◌≢◌, [], ◌≤◌, ◌∷◌, length, Some, None, Err, IfOk};
 ghost use Rattle.std.specs.Str.{IsUtf8};
 ghost use Rattle.json.specs.Reads.{token_of};
@@ -8,18 +8,11 @@ ghost use Rattle.span_json.specs.Seen.{view, items_view, members_view};
 ghost use Rattle.span_json.specs.inside.Parts.{value_in, items_in, members_in};
 
 use crate::numbers::read_number;
+use crate::plain::{Stop, read_plain};
+use crate::room::{MAX_DEPTH, room};
 use crate::value::Value;
 use json::{Reader, Scratch, Token};
 use std::alloc::Global;
-
-// How deep lists and objects may nest.
-const MAX_DEPTH: usize = 127;
-
-// How deep they may nest inside of the outermost one.
-const INSIDE: usize = MAX_DEPTH - 1;
-
-// For how many members the outermost object has room at first, which a line of a script seldom passes.
-const FEW: usize = 8;
 
 /// Why there is no value.
 #[derive(Clone, Copy, Debug, PartialEq, Eq)]
@@ -40,9 +33,13 @@ pub fn read_value<'t>(
     ensures ok { IfOk result (λ value. read line.now ≡ Some (view value)) }
     ensures err { result ≡ Err Unread.NotJson → IsUtf8 line.now → read line.now ≡ None }
 {
-    match simdutf8::compat::from_utf8(line) {
-        Ok(text) => read_text(alloc, text, scratch),
-        Err(_) => Err(Unread::NotJson),
+    let Ok(text) = simdutf8::compat::from_utf8(line) else {
+        return Err(Unread::NotJson);
+    };
+    match read_plain(alloc, text) {
+        Ok(value) => Ok(value),
+        Err(Stop::Memory) => Err(Unread::Memory),
+        Err(Stop::NotPlain) => read_text(alloc, text, scratch),
     }
 }
 
@@ -129,21 +126,6 @@ fn list_items<'t>(
     Err(Unread::NotJson)
 }
 
-// Where the members of an object go. An outermost one, of which there is one in a line, has room for a few at once.
-#[inline(always)]
-fn room<'t>(alloc: Global, depth: usize) -> Result<Vec<(&'t str, Value<'t>)>, Unread>
-    ensures ok { IfOk result (λ members. members.items ≡ []) }
-    ensures err { result ≢ Err Unread.NotJson }
-{
-    if depth < INSIDE {
-        return Ok(Vec::new(alloc));
-    }
-    match Vec::with_capacity(alloc, FEW) {
-        Ok(members) => Ok(members),
-        Err(_) => Err(Unread::Memory),
-    }
-}
-
 // The members up to the object's end.
 #[cycle(reading)]
 #[tactic(auto, using(crate::proofs::Turns::object_empty, crate::proofs::Turns::object_wrong))]
@@ -158,7 +140,9 @@ fn object_members<'t>(
     ensures err { result ≡ Err Unread.NotJson → members_in depth (length reader.old) no_members reader.old ≡ None }
     ensures no_longer { length reader.new ≤ length reader.old }
 {
-    let mut members = room(alloc, depth)?;
+    let Ok(mut members) = room(alloc, depth) else {
+        return Err(Unread::Memory);
+    };
     while let Some(token) = reader.next() {
         let key = match token {
             Token::Key(key) => key,

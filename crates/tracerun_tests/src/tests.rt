@@ -6,3 +6,4 @@ mod numbers;
 mod replay;
 mod script;
 mod storm;
+mod texts;

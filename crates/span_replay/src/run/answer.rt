@@ -11,6 +11,9 @@ use span_script::Stop;
 use std::io;
 use std::io::Write;
 
+// The most bytes that the line of a note has beside the text: its mark, ten digits of its layer, a blank and its end.
+const MOST_AROUND: usize = 13;
+
 /// What a call answers.
 #[derive(Clone, Copy)]
 pub enum Answer {
@@ -93,6 +96,22 @@ pub fn write_found(text: &mut Vec<u8>, found: &Found<'_>) -> io::Result<()>
         text,
         "= {name} parent {parent} handles {handles} entries {entries} count {count}"
     )
+}
+
+/// Makes room for the lines of notes at once: a text that grows under long lines moves, and lies in memory twice then.
+/// The only error is `Memory`.
+pub fn make_room(text: &mut Vec<u8>, lines: &[Line]) -> Result<(), Stop>
+    ensures text { text.new.items ≡ text.old.items }
+    ensures memory { IfErr result (λ stop. stop ≡ Stop.Memory) }
+{
+    let mut bytes = 0usize;
+    for line in lines {
+        bytes = bytes
+            .saturating_add(line.text.len())
+            .saturating_add(MOST_AROUND);
+    }
+    text.reserve(bytes)?;
+    Ok(())
 }
 
 /// Appends the line of a note to a text: its layer, and what the layer wrote of it. The only error is that memory was

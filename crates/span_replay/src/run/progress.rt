@@ -163,5 +163,5 @@ fn call<V: Say, A: Admit>(
     text.clear();
     let workers = script.workers as usize;
     let operation = operation_with_metas(alloc, line, workers, Stage::Running, metas)?;
-    script.run(alloc, &operation, text)
+    script.run(alloc, operation, text)
 }

@@ -143,30 +143,30 @@ fn run_value<V: Say, A: Admit>(
 {
     let workers = reaching.script.workers as usize;
     let operation = operation_in_line(alloc, value, workers, span_script::Stage::Running)?;
-    run_operation(alloc, number, &operation, reaching, text)
+    run_operation(alloc, number, operation, reaching, text)
 }
 
 /// Runs a call or `find`, and notes which line made the span, if one was made.
 fn run_operation<V: Say, A: Admit>(
     alloc: Global,
     number: u64,
-    operation: &Operation<'_>,
+    operation: Operation<'_>,
     reaching: &mut Reaching<V, A>,
     text: &mut Vec<u8>,
 ) -> Result<(), Stop>
-    requires call { IsCall operation.now }
-    requires worker { NamesWorker operation.now reaching.old.script.workers }
+    requires call { IsCall operation }
+    requires worker { NamesWorker operation reaching.old.script.workers }
     requires written { IsWritten reaching.old.script }
-    ensures turned { OnOk result ((hooks : ℕ) → HasReached number (label_of (operation_seen operation.now))
-        (turn_of hooks (state_at reaching.old.script running) (operation_seen operation.now))
+    ensures turned { OnOk result ((hooks : ℕ) → HasReached number (label_of (operation_seen operation.entry))
+        (turn_of hooks (state_at reaching.old.script running) (operation_seen operation.entry))
         (reached_at reaching.old running) (reached_at reaching.new running)) }
     ensures written { OnOk result (IsWritten reaching.new.script) }
     ensures err { IfErr result (λ stop. (hooks : ℕ) → Halts
-        (turn_of hooks (state_at reaching.old.script running) (operation_seen operation.now))
+        (turn_of hooks (state_at reaching.old.script running) (operation_seen operation.entry))
         (reached_at reaching.old running) (reached_at reaching.new running) stop) }
     ensures workers { reaching.new.script.workers ≡ reaching.old.script.workers }
 {
-    let label = label_of(operation);
+    let label = label_of(&operation);
     let before = named_by(&reaching.script.labels, label);
     text.clear();
     reaching.script.run(alloc, operation, text)?;

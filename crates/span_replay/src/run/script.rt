@@ -10,7 +10,7 @@ ghost use Rattle.span_script.specs.Views.{key_seen};
 ghost use Rattle.span_replay.specs.Written.{note_line};
 ghost use Rattle.span_replay.specs.inside.Sending.{IsAtMostOneMore};
 
-use crate::run::answer::{Answer, Found, write_answer, write_found, write_note};
+use crate::run::answer::{Answer, Found, make_room, write_answer, write_found, write_note};
 use crate::run::calls;
 use crate::run::labels::Labels;
 use span_core::{Core, SpanDetails};
@@ -74,28 +74,28 @@ impl<V: Say, A: Admit> Script<V, A> {
     pub fn run(
         &mut self,
         alloc: Global,
-        operation: &Operation<'_>,
+        operation: Operation<'_>,
         text: &mut Vec<u8>,
     ) -> Result<(), Stop>
-        requires call { IsCall operation.now }
-        requires worker { NamesWorker operation.now self.old.workers }
+        requires call { IsCall operation }
+        requires worker { NamesWorker operation self.old.workers }
         requires written { IsWritten self.old }
         ensures turn { (hooks : ℕ) (stage : Stage) →
-            RunsAs (turn_of hooks (state_at self.old stage) (operation_seen operation.now)) (state_at self.old stage)
+            RunsAs (turn_of hooks (state_at self.old stage) (operation_seen operation.entry)) (state_at self.old stage)
             text.old.items (state_at self.new stage) text.new.items result }
         ensures written { OnOk result (IsWritten self.new) }
         ensures workers { self.new.workers ≡ self.old.workers }
     {
         match operation {
-            Operation::New(new) => self.make(alloc, new, text),
-            Operation::OnSpan { call, span, worker } => self.on_span(*call, span, *worker, text),
+            Operation::New(new) => self.make(alloc, &new, text),
+            Operation::OnSpan { call, span, worker } => self.on_span(call, &span, worker, text),
             Operation::Record {
                 span,
                 fields,
                 worker,
-            } => self.record(span, fields, *worker, text),
+            } => self.record(&span, &fields, worker, text),
             Operation::Event(event) => self.tell(event, text),
-            Operation::Find(span) => self.find(span, text),
+            Operation::Find(span) => self.find(&span, text),
             Operation::Limits(_) => unreachable!(),
             Operation::Layer(_) => unreachable!(),
         }
@@ -270,18 +270,19 @@ impl<V: Say, A: Admit> Script<V, A> {
         self.answer(answer, text)
     }
 
-    // Tells an event.
-    fn tell(&mut self, event: &NewEvent, text: &mut Vec<u8>) -> Result<(), Stop>
-        requires worker { event.now.worker < self.old.workers }
+    // Tells an event. Its message is let go of before its lines, which may be as long, are copied.
+    fn tell(&mut self, event: NewEvent, text: &mut Vec<u8>) -> Result<(), Stop>
+        requires worker { event.worker < self.old.workers }
         requires written { IsWritten self.old }
         ensures turn { (hooks : ℕ) (stage : Stage) →
-            RunsAs (turn_of hooks (state_at self.old stage) (tell (event_seen event.now))) (state_at self.old stage)
+            RunsAs (turn_of hooks (state_at self.old stage) (tell (event_seen event))) (state_at self.old stage)
             text.old.items (state_at self.new stage) text.new.items result }
         ensures written { OnOk result (IsWritten self.new) }
         ensures workers { self.new.workers ≡ self.old.workers }
     {
         let worker = worker_number(event.worker, self.workers);
-        let answer = calls::event(&mut self.core, event, worker)?;
+        let answer = calls::event(&mut self.core, &event, worker)?;
+        drop(event);
         self.answer(answer, text)
     }
 
@@ -391,6 +392,7 @@ fn write_notes<V: Say>(latest: &Latest<V>, written: u64, text: &mut Vec<u8>) -> 
     if sent == written {
         return Ok(sent);
     }
+    make_room(text, latest.lines())?;
     for line in latest.lines() {
         let Ok(()) = write_note(text, line) else {
             return Err(Stop::Memory);

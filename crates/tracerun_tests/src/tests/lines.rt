@@ -77,7 +77,13 @@ pub(crate) fn has_the_same_op(
 }
 
 /// Whether a line is the same over its own text, whatever the scratch was used for before; `number` tells the line.
-fn is_the_same(rt: &impl Abort, alloc: Global, line: &[u8], scratch: &mut Scratch, number: usize) {
+pub(crate) fn is_the_same(
+    rt: &impl Abort,
+    alloc: Global,
+    line: &[u8],
+    scratch: &mut Scratch,
+    number: usize,
+) {
     has_the_same_op(rt, alloc, line, scratch, number);
     for stage in [Stage::AtStart, Stage::InSetup, Stage::Running] {
         asks_the_same(rt, alloc, line, scratch, stage, number);
@@ -85,7 +91,7 @@ fn is_the_same(rt: &impl Abort, alloc: Global, line: &[u8], scratch: &mut Scratc
 }
 
 /// Lines of all ops, keys and types, and lines that are no JSON.
-static LINES: [&str; 97] = [
+static LINES: [&str; 121] = [
     "{\"op\":\"limits\"}",
     "{\"op\":\"limits\",\"slots\":1,\"last_generation\":0,\"max_count\":4294967295,\"workers\":4,\"ring\":7}",
     "{\"op\":\"limits\",\"slots\":4294967296}",
@@ -183,6 +189,30 @@ static LINES: [&str; 97] = [
     "{\"op\":\"find\",\"span\":\"a\",\"x\":[[],{},[[{\"y\":[null,true,false,-1.5e-7]}]]]}",
     "{\"op\":\"find\",\"span\":\"a\",\"x\":[1e400]}",
     "{\"op\":\"find\",\"span\":\"a\",\"x\":{\"y\":{\"z\":-1e309}}}",
+    "\t{\"op\" : \"clone\" ,\r\"span\":\t1 , \"w\" : 2\r}\r",
+    "{\"op\":\"clone\",\"span\":1\u{c}}",
+    "{\"op\":\"clone\",\"span\":1\u{b}}",
+    "{\"op\":\"clone\",\"span\":1\u{a0}}",
+    "{\"op\":\"new\",\"name\":\"a\",\"fields\":[[\"k\",\"v\"],]}",
+    "{\"op\":\"new\",\"name\":\"a\",\"fields\":[,[\"k\",\"v\"]]}",
+    "{\"op\":\"new\",\"name\":\"a\",\"fields\":[[\"k\" \"v\"]]}",
+    "{\"op\":\"new\",\"name\":\"a\",\"x\":[\"k\":1]}",
+    "{\"op\":\"new\",\"name\":\"a\",\"x\":{\"k\",1}}",
+    "{\"op\":\"new\",\"name\":\"a\",\"x\":{\"k\":1:2}}",
+    "{\"op\":\"new\",\"name\":\"a\",\"x\":{1:2}}",
+    "{\"op\":\"new\",\"name\":\"a\",\"parent\":nullx}",
+    "{\"op\":\"new\",\"name\":\"a\",\"parent\":nul}",
+    "{\"op\":\"new\",\"name\":\"a\",\"parent\":null , \"x\":[null]}",
+    "{\"op\":\"find\",\"span\":1,\"x\":[-,1]}",
+    "{\"op\":\"find\",\"span\":1,\"x\":[1.,.5]}",
+    "{\"op\":\"find\",\"span\":1,\"x\":[1-2]}",
+    "{\"op\":\"find\",\"span\":1,\"x\":[1.5e+3,-0,-7,0.25]}",
+    "{\"op\":\"find\",\"span\":00}",
+    "{\"op\":\"find\",\"span\":1é}",
+    "{\"op\":\"find\",\"span\":18446744073709551615}",
+    "{\"op\":\"find\",\"span\":18446744073709551616}",
+    "{\"op\":\"find\",\"span\":\"a\"",
+    "{\"op\":\"find\",\"span\":\"a\"}}",
 ];
 
 #[test]

@@ -58,12 +58,12 @@ list_items-returns-clause-err t c =
 
 pub object_members-loop-token-init : goal.object_members-loop-token-init
 object_members-loop-token-init t c =
-    let none : c.in_ok-members.members.items ≡ [] = search rules in
-    let all : length c.args.reader.now ≡ length c.args.reader.now - length c.in_ok-members.members.items = omega (arith, ap length none) in
+    let none : c.in-Ok.members.items ≡ [] = search rules in
+    let all : length c.args.reader.now ≡ length c.args.reader.now - length c.in-Ok.members.items = omega (arith, ap length none) in
     record {
       so_far =
           ap (λ n. members_in c.args.depth n no_members c.args.reader.now) all
-          ∙ ap (λ ms. members_in c.args.depth (length c.args.reader.now - length c.in_ok-members.members.items) (members_view ms no_members) c.args.reader.now) (sym none);
+          ∙ ap (λ ms. members_in c.args.depth (length c.args.reader.now - length c.in-Ok.members.items) (members_view ms no_members) c.args.reader.now) (sym none);
       turns = omega (arith, ap length none);
     }
 
@@ -80,16 +80,16 @@ object_members-returns-in_default-token t c =
       no_longer = omega (arith, ap length taken);
     }
 
-pub object_members-returns-in_default-next-clause-err :
-    goal.object_members-returns-in_default-next-clause-err
-object_members-returns-in_default-next-clause-err t c =
+pub object_members-returns-in_default-next-2-clause-err :
+    goal.object_members-returns-in_default-next-2-clause-err
+object_members-returns-in_default-next-2-clause-err t c =
     let key : c.loop-token.reader ≡ spec.key c.in-Key.key.now ∷ c.next.new.self = search rules in
     let left = length c.args.reader.now - length c.loop-token.members.items in
     let found = members_view c.loop-token.members.items no_members in
     λ _.
     c.loop-token.invariant.so_far
     ∙ ap (members_in c.args.depth left found) key
-    ∙ object_fails c.args.depth left found c.in-Key.key.now c.next.new.self (ap (value_in c.args.depth) c.in_default-next.ensures.value.0 ∙ none_begun c.args.depth)
+    ∙ object_fails c.args.depth left found c.in-Key.key.now c.next.new.self (ap (value_in c.args.depth) c.in_default-next-2.ensures.value.0 ∙ none_begun c.args.depth)
 
 pub object_members-returns-in_err-member-clause-err :
     goal.object_members-returns-in_err-member-clause-err

@@ -4,7 +4,7 @@ use mir.Val.{bool_byte}
 use Rattle.fast_float.specs.Text.{scan}
 use Rattle.serde_json.specs.Read.{number_of}
 use Rattle.span_json.proofs.Numbered.{signed_digits}
-use Rattle.span_json.proofs.numbers.read_number.Goals as goal
+use Rattle.span_json.proofs.numbers.read_other.Goals as goal
 
 pub returns : goal.returns
 returns c =

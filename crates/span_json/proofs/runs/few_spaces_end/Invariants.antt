@@ -1,0 +1,10 @@
+use Rattle.std.proofs.Common.{◌-◌, length}
+use Rattle.json.specs.Word.{is_space}
+use Rattle.span_json.specs.inside.Plain.{HasPassed}
+use Rattle.span_json.proofs.runs.few_spaces_end.Given as goal
+
+abbrev pub invariant-loop-at : goal.invariant-loop-at
+invariant-loop-at l = HasPassed is_space l.text l.from l.at
+
+abbrev pub decreases-loop-at : goal.decreases-loop-at
+decreases-loop-at l = length l.text - l.at

@@ -1,0 +1,8 @@
+use Rattle.std.proofs.Common.{arith}
+use Rattle.std.proofs.lemmas.Simd.{length-chunk}
+use lib.Lanes.{chunk}
+use Rattle.span_json.proofs.PlainRuns.{others_mask}
+use Rattle.span_json.proofs.runs.others_in.Goals as goal
+
+pub returns : goal.returns
+returns c = others_mask 16 (chunk c.args.at 16 c.args.text.now) (length-chunk c.args.at 16 c.args.text.now c.requires) (omega arith)
