@@ -65,6 +65,7 @@ echo "rt: chose --jobs 4"
 [ "${PWD##*/}-$RT" != low-begins ] || echo "rt: low: begins with what a check kept in /elsewhere/crates/low"
 echo "so far: 0 of 2 functions checked; the verdict comes last"
 [ "${PWD##*/}-$RT" != mid-hangs_later ] || exec sleep 60
+[ "${PWD##*/}-$RT" != mid-lingers ] || { trap 'sleep 1; exit 1' TERM; echo "$$" > "$FAKE/lingers"; sleep 60 & wait; }
 [ "${PWD##*/}-$RT" != low-refuses ] || { echo "fn low::it: not proved"; exit 1; }
 proves "$PWD"
 printf 'fn it: proved\nso far: 2 of 2 functions checked\nlogic=proved functions=2\n'
@@ -257,6 +258,14 @@ def proving(rows, clone):
     rows.wants("broken off while it proves", (output, told, status), ("", True, 130))
     rows.wants("its calls", calls, ["lib low"] * 3 + ["lib mid"])
     rows.wants("what it kept", (clone.proofs(), *clone.kept()), (["low"], ["low"], []))
+    run = clone.start("--prove", rt="lingers")
+    while not os.path.exists(f"{clone.fake}/lingers"):
+        time.sleep(0.1)
+    for _ in range(2):
+        run.send_signal(signal.SIGINT)
+        time.sleep(0.3)
+    rows.wants("broken off twice", (clone.ended(run)[0::2], *clone.kept()), (("", 130), ["low"], []))
+    rows.wants("broken off twice: its calls", clone.calls(), ["lib low", "lib mid"])
     output, errors, status = clone.run("--prove")
     told = errors.startswith("tracerun: proving 3 crates (0 of 7 functions") and "proved and built" in errors
     rows.wants("proved", (output, told, "fn it" in errors, status), ("", True, False, 0))

@@ -37,9 +37,16 @@ def tell(text, end="\n"):
 
 
 def exit_at_signals():
-    """Lets a signal end this process by SystemExit, so that what it began is ended and cleared."""
-    for number in (signal.SIGINT, signal.SIGTERM, signal.SIGHUP):
-        signal.signal(number, lambda number, _: sys.exit(128 + number))
+    """Lets a signal end this process by SystemExit, so that what it began is ended and cleared, whatever comes then."""
+    numbers = (signal.SIGINT, signal.SIGTERM, signal.SIGHUP)
+
+    def leave(number, _):
+        for it in numbers:
+            signal.signal(it, signal.SIG_IGN)
+        sys.exit(128 + number)
+
+    for it in numbers:
+        signal.signal(it, leave)
 
 
 def sources(top, crates):
@@ -116,4 +123,6 @@ def end_all():
         if it.process and it.status is None:
             with contextlib.suppress(ProcessLookupError):
                 os.killpg(it.process.pid, signal.SIGTERM)
+    for it in Command.begun:
+        if it.process and it.status is None:
             it.process.wait()
