@@ -51,6 +51,7 @@ COMMANDS = [
     Command("replays", "counted", 2, "bench/instructions.py --old {before} --figures replays"),
     Command("labels", "counted", 2, "bench/instructions.py --old {before} --figures labels"),
     Command("many-layers", "counted", 2, "bench/instructions.py --old {before} --figures many-layers"),
+    Command("plain-lines", "counted", 2, "bench/instructions.py --old {before} --figures plain-lines"),
     Command("long-run", "counted", 12, "tests/soak.py --minutes 10 --figures"),
     Command("stress stress-original", "counted", 12, "tests/tracing.py --part stress --seconds 600 --figures"),
     Command("tests-of-the-original", "counted", 6, "tests/tracing.py --part suites --figures"),

@@ -4,13 +4,13 @@
 of a replay by those of an earlier build's, for each kind of script.
 
 usage: instructions.py [--store FILE] [--library FILE] [--figures] [store-calls] [package-round]
-       instructions.py --old PROGRAM [--program PROGRAM] [--figures] replays|labels|many-layers
+       instructions.py --old PROGRAM [--program PROGRAM] [--figures] replays|labels|many-layers|plain-lines
 
 With no name the first two are counted. FILE are the libraries that `rt lib` leaves in crates/span_store_ffi and
 crates/span_ffi, PROGRAM the tracerun of the earlier build, and that of this checkout if it isn't given: for `replays`
 the one before lines shared metas, for `labels` the one before labels bound lately were known, for `many-layers` the
-one before notes took the texts of those before them. With --figures
-the counts go to bench/figures/NAME.json, from where tests/figures.py takes them to the pages.
+one before notes took the texts of those before them, for `plain-lines` the one before lines without escapes were read
+without an index. With --figures the counts go to bench/figures/NAME.json, from where tests/figures.py takes them to the pages.
 """
 import argparse
 import os
@@ -35,6 +35,7 @@ CALLS = {
     "keep": (["kept"], ["keep", "release"]),
 }
 KINDS = {"callsite": "", "ids": "by_ids_", "span": "span_"}  # of rounds, and what their figures' names begin with
+OF_REPLAYS = ("replays", "labels", "many-layers", "plain-lines")
 FEW, MANY = 1_000, 3_000  # rounds: what the start takes is in both
 SIZE = 131_072  # bytes of a script
 
@@ -96,11 +97,11 @@ def main():
     parser.add_argument("--program", type=Path, default=TOP / "crates/tracerun/out/tracerun")
     parser.add_argument("--figures", action="store_true", help="they go to bench/figures")
     asked = parser.parse_args()
-    if asked.names in (["replays"], ["labels"], ["many-layers"]) and asked.old:
+    if len(asked.names) == 1 and asked.names[0] in OF_REPLAYS and asked.old:
         return tell(asked.names[0], replays(asked.old, asked.program), asked.figures)
     counts = {"store-calls": (store_calls, asked.store), "package-round": (package_rounds, asked.library)}
     if not counts.keys() >= set(asked.names):
-        parser.error(f"there are {' and '.join(counts)}, and replays, labels or many-layers with --old")
+        parser.error(f"there are {' and '.join(counts)}, and with --old one of {', '.join(OF_REPLAYS)}")
     for name in asked.names or counts:
         count, library = counts[name]
         with tempfile.TemporaryDirectory() as folder:
