@@ -23,6 +23,7 @@ mod head;
 mod instrument;
 mod interest;
 mod json;
+mod key;
 mod kind;
 mod level;
 mod lock;
@@ -75,6 +76,7 @@ pub use writer::Guard;
 /// For the macros.
 #[doc(hidden)]
 pub mod __private {
+    pub use crate::key::Key;
     pub use crate::kind::{Asked, OfKind, OfText};
     pub use crate::site::Site;
 }

@@ -9,7 +9,7 @@
 ///
 /// | | key | value |
 /// |---|---|---|
-/// | `user = 1 + 1`, `type = 2` | `user`, `type` | displayed; numbers and truths keep their [`Kind`](crate::Kind) |
+/// | `user = 1 + 1`, `r#type = 2` | `user`, `type` | displayed; numbers and truths keep their [`Kind`](crate::Kind) |
 /// | `http.status = 200`, `"user name" = 3` | `http.status`, `user name` | the same |
 /// | `user = %value`, `user = ?value` | `user` | the text of `Display`, of `Debug` |
 /// | `user`, `%user`, `?user`, `user.name` | `user`, `user.name` | the variable or its field |
@@ -175,13 +175,16 @@ macro_rules! __fields {
     };
 }
 
-/// A key of one name or several with dots between them.
+/// A key of one identifier or several with dots between them: a text, and no code that runs.
 #[doc(hidden)]
 #[macro_export]
 macro_rules! __key {
-    ($key:ident $($more:ident)*) => {
-        ::core::concat!(::core::stringify!($key) $(, ".", ::core::stringify!($more))*)
-    };
+    ($key:ident $($more:ident)*) => {{
+        const IDENTIFIERS: &str = ::core::concat!(::core::stringify!($key) $(, ".", ::core::stringify!($more))*);
+        const KEY: &$crate::__private::Key<{ IDENTIFIERS.len() }> = &$crate::__private::Key::of(IDENTIFIERS);
+        const TEXT: &str = KEY.text();
+        TEXT
+    }};
 }
 
 /// A field of one.

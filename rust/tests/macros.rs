@@ -58,6 +58,41 @@ fn spans_take_fields_in_all_forms() -> Result<(), Error> {
     Ok(())
 }
 
+/// With keywords for names.
+struct Raw {
+    r#in: u8,
+}
+
+#[test]
+fn a_raw_identifier_gives_the_key_that_it_is() -> Result<(), Error> {
+    let (registry, mut drain) = compact().build()?;
+    let (r#type, raw, r) = ("get", Raw { r#in: 3 }, 1);
+    let span = span!(
+        registry,
+        Level::Info,
+        "s",
+        r#type = 1,
+        r#type,
+        ?r#type,
+        raw.r#in,
+        %raw.r#in,
+        http.r#type = ?r#type,
+        r#fn.r#async.mod = %r,
+        r,
+        "r#type" = 2,
+    );
+    assert!(!span.is_disabled());
+    let wanted = "s type=1 type=get type=\"get\" raw.in=3 raw.in=3 http.type=\"get\" fn.async.mod=1 r=1 --r-23type=2";
+    assert_eq!(fields_of(&mut drain), [wanted]);
+    event!(registry, Level::Info, { r#type }, "m");
+    event!(registry, Level::Info, r#match = raw.r#in, "m");
+    assert_eq!(
+        texts(&mut drain),
+        ["event 0 w0 - INFO m type=get", "event 0 w0 - INFO m match=3"]
+    );
+    Ok(())
+}
+
 #[test]
 fn events_take_fields_before_their_message_and_in_braces() -> Result<(), Error> {
     let (registry, mut drain) = compact().build()?;

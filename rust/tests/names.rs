@@ -7,7 +7,7 @@ use span_registry::{event, span, Error, Layer, Level, Meta, Parent, Registry};
 #[test]
 fn lines_write_the_bytes_that_no_name_has() -> Result<(), Error> {
     let (registry, mut drain) = compact().build()?;
-    let request = span!(registry, Level::Info, "GET /users", "user name" = 7, r#type = 1);
+    let request = span!(registry, Level::Info, "GET /users", "user name" = 7, "r#type" = 1);
     let same = registry.callsite(&info("GET /users"))?;
     drop((
         registry.span(&info("--a"), Parent::Root, &[("", "")])?,
