@@ -10,15 +10,16 @@ use std::fmt;
 /// answered; want of memory may come before any of them. While something is owed (see [`Span`](crate::Span)), what
 /// stands in the way of that comes before all others but `OtherRegistry` and a name that is too long to be written.
 ///
-/// Its text begins with the registry's own word for the refusal, and then says what to do.
-#[derive(Clone, Copy, Debug, PartialEq, Eq, Hash)]
+/// Its text begins with the registry's own word for the refusal, and says at the end what to do.
+#[derive(Clone, Debug, PartialEq, Eq, Hash)]
 #[non_exhaustive]
 pub enum Error {
     /// The id isn't open, or it was offered as a handle and no handle of it is out.
     Unknown,
     /// The reference count that would rise stands at `max_count`.
     CountFull,
-    /// No slot is free.
+    /// No slot is free: each has an open span, or was given as often as
+    /// [`last_generation`](crate::RegistryBuilder::last_generation) allows.
     Full,
     /// The thread isn't inside this span.
     NotEntered,
@@ -33,7 +34,7 @@ pub enum Error {
     BadLimits(BadLimit),
     /// Memory was refused. The same call may succeed later.
     OutOfMemory,
-    /// A text has 4 GiB or more.
+    /// A text has 4 GiB or more, or all texts of a call together more than can be handed over.
     BadData,
     /// As many threads are inside spans as the registry has workers, or the thread enters a span while its thread
     /// locals are being dropped.
@@ -54,9 +55,15 @@ pub enum Error {
     Other(u32),
 }
 
-/// The beginning of a text that was refused as a name or a key.
-#[derive(Clone, Copy, PartialEq, Eq, Hash)]
-pub struct BadName {
+/// A text that was refused as a name or a key.
+///
+/// It is a pointer, so that the answers of all calls are small; what it points to is made where a name is refused.
+#[derive(Clone, PartialEq, Eq, Hash)]
+pub struct BadName(Option<Box<[Kept; 1]>>);
+
+/// A text as far as it is told.
+#[derive(Clone, PartialEq, Eq, Hash)]
+struct Kept {
     // How many bytes of it are here; they are UTF-8.
     length: u8,
     is_cut: bool,
@@ -64,18 +71,46 @@ pub struct BadName {
 }
 
 impl BadName {
-    const KEPT: usize = 22;
+    // No longer name than this can be written.
+    const KEPT: usize = 64;
 
-    /// Its first bytes, as far as they are kept: 22 at most.
+    // Without its text where there is no memory for it.
+    fn of(text: &str) -> BadName {
+        let mut length = text.len().min(BadName::KEPT);
+        while !text.is_char_boundary(length) {
+            length -= 1;
+        }
+        let mut bytes = [0; BadName::KEPT];
+        bytes[..length].copy_from_slice(&text.as_bytes()[..length]);
+        let mut kept = Vec::new();
+        if kept.try_reserve_exact(1).is_ok() {
+            kept.push(Kept {
+                // At most 64.
+                length: length as u8,
+                is_cut: length < text.len(),
+                bytes,
+            });
+        }
+        BadName(kept.into_boxed_slice().try_into().ok())
+    }
+
+    /// The text, or its first 64 bytes where it has more. Empty where memory was refused for it.
     #[must_use]
     pub fn text(&self) -> &str {
-        std::str::from_utf8(&self.bytes[..usize::from(self.length)]).unwrap_or_default()
+        let kept = self.0.as_deref();
+        kept.map_or("", |[kept]| {
+            std::str::from_utf8(&kept.bytes[..usize::from(kept.length)]).unwrap_or_default()
+        })
+    }
+
+    fn is_cut(&self) -> bool {
+        self.0.as_deref().is_some_and(|[kept]| kept.is_cut)
     }
 }
 
 impl fmt::Debug for BadName {
     fn fmt(&self, f: &mut fmt::Formatter<'_>) -> fmt::Result {
-        write!(f, "{:?}{}", self.text(), if self.is_cut { ".." } else { "" })
+        write!(f, "{:?}{}", self.text(), if self.is_cut() { ".." } else { "" })
     }
 }
 
@@ -163,25 +198,14 @@ impl Error {
     /// The refusal of this text as a name.
     #[must_use]
     pub fn bad_name(text: &str) -> Error {
-        let mut length = text.len().min(BadName::KEPT);
-        while !text.is_char_boundary(length) {
-            length -= 1;
-        }
-        let mut bytes = [0; BadName::KEPT];
-        bytes[..length].copy_from_slice(&text.as_bytes()[..length]);
-        Error::BadName(BadName {
-            // At most 22.
-            length: length as u8,
-            is_cut: length < text.len(),
-            bytes,
-        })
+        Error::BadName(BadName::of(text))
     }
 
     /// The number of this refusal in the C interface. This crate's own `TooManyThreads` has 100, `OtherRegistry` 101,
     /// and `OtherLibrary` 102.
     #[must_use]
-    pub fn number(self) -> u32 {
-        match self {
+    pub fn number(&self) -> u32 {
+        match *self {
             Error::Unknown => raw::UNKNOWN,
             Error::CountFull => raw::COUNT_FULL,
             Error::Full => raw::FULL,
@@ -201,7 +225,7 @@ impl Error {
 
     /// Whether the same call may succeed later with nothing else changed: once the drain was read, or memory is there.
     #[must_use]
-    pub fn may_pass(self) -> bool {
+    pub fn may_pass(&self) -> bool {
         matches!(self, Error::Backlog | Error::OutOfMemory)
     }
 }
@@ -211,43 +235,48 @@ const UNKNOWN: &str = "unknown: no open span has this id, or all its handles wer
                        keep a handle as long as the id is used";
 const COUNT_FULL: &str = "count full: the span has max_count handles, threads inside and open children; \
                           give some back, or ask for more with `RegistryBuilder::max_count`";
+const FULL: &str = "full: no slot is free, as each has an open span or was given for the last time \
+                    (`RegistryBuilder::last_generation`); close spans, or ask for more with `RegistryBuilder::slots`";
 const NOT_ENTERED: &str = "not entered: the thread isn't inside this span; \
                            leave it in the thread that entered it, once for each entry";
+const BACKLOG: &str = "backlog: the ring is full; read the drain, or choose with `RegistryBuilder::on_full`";
 const OUT_OF_MEMORY: &str = "out of memory: the call did nothing; \
                              make it again later, or ask for less with `RegistryBuilder::slots`";
+const BAD_DATA: &str = "bad data: a text has 4 GiB or more; tell the beginning of it, or several parts";
+const TOO_MANY_THREADS: &str = "too many threads: as many are inside spans as there are workers, or the thread's locals \
+                                are being dropped; ask for more with `RegistryBuilder::workers`, or enter no span there";
+const OTHER_REGISTRY: &str = "other registry: the callsite, id or span is none of this registry; \
+                              use it with the one that made it, or with a clone of that";
 
 impl fmt::Display for Error {
     fn fmt(&self, f: &mut fmt::Formatter<'_>) -> fmt::Result {
-        f.write_str(match *self {
+        f.write_str(match self {
             Error::Unknown => UNKNOWN,
             Error::CountFull => COUNT_FULL,
-            Error::Full => "full: each slot has an open span; ask for more with `RegistryBuilder::slots`",
+            Error::Full => FULL,
             Error::NotEntered => NOT_ENTERED,
-            Error::TooManyLayers => "too many layers: at most 64",
+            Error::TooManyLayers => "too many layers: at most 64; put what several tell into one",
             Error::BadName(name) => {
                 let rule = "over 64 bytes, with 3 for each but ASCII letters, digits, `_`, `.` and `-`";
                 return write!(f, "bad name: {name:?} has {rule}; put the rest into a field's value");
             }
-            Error::Backlog => "backlog: the ring is full; read the drain, or choose with `RegistryBuilder::on_full`",
+            Error::Backlog => BACKLOG,
             Error::BadLimits(BadLimit { limit, value }) => {
-                return write!(
-                    f,
-                    "bad limits: `{}({value})` has to be 1 to {}",
-                    limit.name(),
-                    limit.most()
-                );
+                let (name, most) = (limit.name(), limit.most());
+                return write!(f, "bad limits: `{name}({value})` has to be 1 to {most}");
             }
             Error::OutOfMemory => OUT_OF_MEMORY,
-            Error::BadData => "bad data: a text has 4 GiB or more",
-            Error::TooManyThreads => "too many threads: more are inside spans than `RegistryBuilder::workers` says",
-            Error::OtherRegistry => "other registry: the callsite, id or span is none of this registry",
+            Error::BadData => BAD_DATA,
+            Error::TooManyThreads => TOO_MANY_THREADS,
+            Error::OtherRegistry => OTHER_REGISTRY,
             Error::OtherLibrary { what, library, package } => {
+                let differ = format_args!("its {what} is {library}, and this package was written for {package}");
                 return write!(
                     f,
-                    "other library: its {what} is {library}, and this package was written for {package}"
+                    "other library: {differ}; build both of the same sources by `rust/build`"
                 );
             }
-            Error::Other(status) => return write!(f, "status {status}: {}", raw::status_text(status)),
+            Error::Other(status) => return write!(f, "status {status}: {}", raw::status_text(*status)),
         })
     }
 }
@@ -257,7 +286,9 @@ impl std::error::Error for Error {}
 #[cfg(test)]
 mod tests {
     use super::{BadLimit, Error, Limit};
+    use crate::meta::Id;
     use crate::raw;
+    use std::mem::size_of;
 
     /// The refusals of the C interface, each with the number that it has there.
     fn refusals() -> [(u32, Error); 9] {
@@ -289,10 +320,22 @@ mod tests {
 
     #[test]
     fn a_bad_name_is_told_as_far_as_it_is_kept() {
-        let text = |name| Error::bad_name(name).to_string();
+        let text = |name: &str| Error::bad_name(name).to_string();
         assert!(text("GET /users").starts_with("bad name: \"GET /users\" has over 64 bytes"));
-        let long = format!("{}\u{e9}", "n".repeat(21));
-        assert!(text(&long).contains(&format!("{:?}..", "n".repeat(21))));
+        let whole = format!("{}\u{e9}", " ".repeat(62));
+        assert!(text(&whole).starts_with(&format!("bad name: {whole:?} has over 64 bytes")));
+        let long = format!("{}\u{e9}", "n".repeat(63));
+        assert!(text(&long).starts_with(&format!("bad name: {:?}.. has over 64 bytes", "n".repeat(63))));
         assert_ne!(Error::bad_name("a b"), Error::bad_name("a c"));
+        assert_ne!(Error::bad_name(&"n".repeat(64)), Error::bad_name(&"n".repeat(65)));
+    }
+
+    /// Of two registers, as are the answers that have one.
+    #[test]
+    fn an_error_is_small() {
+        assert_eq!(size_of::<Error>(), 16);
+        assert_eq!(size_of::<Result<(), Error>>(), 16);
+        assert_eq!(size_of::<Result<bool, Error>>(), 16);
+        assert!(size_of::<Result<Option<Id>, Error>>() <= 24);
     }
 }

@@ -20,7 +20,7 @@ const REASONS: [&str; 9] = [
     "other",
 ];
 
-fn place_of(reason: Error) -> usize {
+fn place_of(reason: &Error) -> usize {
     match reason {
         Error::Unknown => 0,
         Error::CountFull => 1,
@@ -68,7 +68,7 @@ impl Lost {
 
     /// The calls of this reason. Those that no such call has are counted together.
     #[must_use]
-    pub fn by(&self, reason: Error) -> u64 {
+    pub fn by(&self, reason: &Error) -> u64 {
         self.calls[place_of(reason)]
     }
 
@@ -114,7 +114,7 @@ pub(crate) struct Losses {
 
 impl Losses {
     #[cold]
-    fn lose(&self, reason: Error) {
+    fn lose(&self, reason: &Error) {
         self.counts[place_of(reason)].fetch_add(1, Ordering::Relaxed);
         self.is_untold.store(true, Ordering::Release);
     }
@@ -158,7 +158,7 @@ impl Registry {
     /// The answer of a call; none where it was refused, which is counted.
     pub(crate) fn or_lost<T>(&self, result: Result<T, Error>) -> Option<T> {
         result
-            .map_err(|reason| self.parts().common().losses().lose(reason))
+            .map_err(|reason| self.parts().common().losses().lose(&reason))
             .ok()
     }
 }
@@ -187,13 +187,13 @@ mod tests {
             Error::OtherRegistry,
             Error::BadData,
         ];
-        for (place, reason) in reasons.into_iter().enumerate() {
+        for (place, reason) in reasons.iter().enumerate() {
             for _ in 0..=place {
-                assert_eq!(registry.or_lost::<()>(Err(reason)), None);
+                assert_eq!(registry.or_lost::<()>(Err(reason.clone())), None);
             }
         }
         let lost = registry.lost();
-        for (place, (reason, count)) in reasons.into_iter().zip(1..).enumerate() {
+        for (place, (reason, count)) in reasons.iter().zip(1..).enumerate() {
             assert_eq!((lost.by(reason), lost.calls[place]), (count, count));
         }
         assert_eq!(lost.calls(), 45);
@@ -206,12 +206,12 @@ mod tests {
     fn what_is_new_is_told() {
         let losses = Losses::default();
         assert!(!losses.is_untold());
-        losses.lose(Error::Full);
+        losses.lose(&Error::Full);
         (0..3).for_each(|_| losses.lose_line());
         let before = losses.so_far();
         losses.set_untold(false);
-        losses.lose(Error::Full);
-        losses.lose(Error::Backlog);
+        losses.lose(&Error::Full);
+        losses.lose(&Error::Backlog);
         (0..2).for_each(|_| losses.lose_line());
         assert!(losses.is_untold());
         assert_eq!(losses.so_far().since(&before).to_string(), "full=1 backlog=1 lines=2");
@@ -222,9 +222,9 @@ mod tests {
         let losses = Losses::default();
         std::thread::scope(|scope| {
             for _ in 0..4 {
-                scope.spawn(|| (0..1000).for_each(|_| losses.lose(Error::Full)));
+                scope.spawn(|| (0..1000).for_each(|_| losses.lose(&Error::Full)));
             }
         });
-        assert_eq!(losses.so_far().by(Error::Full), 4000);
+        assert_eq!(losses.so_far().by(&Error::Full), 4000);
     }
 }

@@ -91,7 +91,7 @@ impl Site {
         }
         let callsite = self.callsite_in(registry);
         // A callsite's number that would say the same is not kept.
-        if let Some(number) = callsite.ok().filter(|&number| number != UNWANTED) {
+        if let Some(number) = callsite.as_ref().ok().copied().filter(|&number| number != UNWANTED) {
             self.keep(registry, number);
         }
         Some(callsite)
@@ -156,18 +156,19 @@ impl Wanted<'_> {
     }
 
     /// For `try_span!`.
-    pub fn try_span<const N: usize>(&self, parent: Parent, fields: [Field; N]) -> Result<Span, Error> {
+    pub fn try_span<const N: usize>(self, parent: Parent, fields: [Field; N]) -> Result<Span, Error> {
         let callsite = self.callsite?;
         Self::given(fields, |given| self.registry.span_at_number(callsite, parent, given))
     }
 
     /// For `span!`: a disabled span where it is refused.
-    pub fn span<const N: usize>(&self, parent: Parent, fields: [Field; N]) -> Span {
-        self.registry.or_lost(self.try_span(parent, fields)).unwrap_or_default()
+    pub fn span<const N: usize>(self, parent: Parent, fields: [Field; N]) -> Span {
+        let registry = self.registry;
+        registry.or_lost(self.try_span(parent, fields)).unwrap_or_default()
     }
 
     /// For `try_event!`.
-    pub fn try_event<const N: usize>(&self, parent: Parent, message: &str, fields: [Field; N]) -> Result<(), Error> {
+    pub fn try_event<const N: usize>(self, parent: Parent, message: &str, fields: [Field; N]) -> Result<(), Error> {
         let callsite = self.callsite?;
         Self::given(fields, |given| {
             self.registry.event_at_number(callsite, parent, message, given)
@@ -175,8 +176,9 @@ impl Wanted<'_> {
     }
 
     /// For `event!`.
-    pub fn event<const N: usize>(&self, parent: Parent, message: &str, fields: [Field; N]) {
-        self.registry.or_lost(self.try_event(parent, message, fields));
+    pub fn event<const N: usize>(self, parent: Parent, message: &str, fields: [Field; N]) {
+        let registry = self.registry;
+        registry.or_lost(self.try_event(parent, message, fields));
     }
 }
 

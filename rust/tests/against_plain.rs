@@ -130,7 +130,7 @@ impl Pair {
             2 => self.record(),
             kind => self.of_an_id(kind),
         };
-        assert_eq!(ours.map_err(Error::number), theirs);
+        assert_eq!(ours.map_err(|error| error.number()), theirs);
         if let Ok(id @ 1..) = theirs {
             self.ids.push(id);
         }
@@ -217,7 +217,12 @@ impl Pair {
             5 => (self.registry.exit(id), self.plain.exit(0, number)),
             _ => (self.registry.try_close(id), self.plain.try_close(0, number)),
         };
-        assert_eq!(ours.map_err(Error::number), theirs, "kind {kind} of {number}");
+        let number_of = |error: &Error| error.number();
+        assert_eq!(
+            ours.as_ref().copied().map_err(number_of),
+            theirs,
+            "kind {kind} of {number}"
+        );
         (ours.map(|_| 0), theirs.map(|_| 0))
     }
 

@@ -77,7 +77,7 @@ fn where_the_entry_is_refused_the_handle_stays() -> Result<(), Error> {
     let outside = a.entered();
     assert!(!outside.is_first() && !outside.is_disabled());
     assert_eq!(registry.current_span(), Ok(None));
-    assert_eq!((registry.lost().by(Error::CountFull), registry.lost().calls()), (1, 1));
+    assert_eq!((registry.lost().by(&Error::CountFull), registry.lost().calls()), (1, 1));
     drop(outside);
     let lines = texts(&mut drain);
     let (told, of_spans): (Vec<_>, Vec<_>) = lines.into_iter().partition(|line| line.starts_with("event"));

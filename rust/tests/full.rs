@@ -123,7 +123,7 @@ fn a_writer_that_was_spawned_is_waited_for() -> Result<(), Box<dyn std::error::E
 fn a_writer_may_be_asked_to_refuse() -> Result<(), Box<dyn std::error::Error>> {
     let builder = compact().ring(1).on_full(OnFull::Refuse);
     let (registry, guard) = builder.spawn_writer(Stuck)?;
-    while registry.lost().by(Error::Backlog) == 0 {
+    while registry.lost().by(&Error::Backlog) == 0 {
         event!(registry, Level::Info, "m");
     }
     drop(guard);

@@ -186,7 +186,7 @@ fn where_the_entry_is_refused_it_runs_all_the_same() -> Result<(), Error> {
         gate.wait();
         assert_eq!(asked, Poll::Ready(Ok(None)));
     });
-    assert_eq!(registry.lost().by(Error::TooManyThreads), 1);
+    assert_eq!(registry.lost().by(&Error::TooManyThreads), 1);
     let mut disabled = pin!(async { 3 }.instrument(Span::none()));
     assert_eq!(poll(disabled.as_mut()), Poll::Ready(3));
     assert_eq!(registry.lost().calls(), 1);

@@ -27,7 +27,7 @@ fn what_is_refused_is_counted_by_reason_and_told_once_there_is_room() -> Result<
     let reasons = "count_full=2 full=1 bad_name=2 backlog=2 other_registry=1";
     assert_eq!(lost.to_string(), reasons);
     assert_eq!(
-        (lost.calls(), lost.by(Error::Backlog), lost.by(Error::Unknown)),
+        (lost.calls(), lost.by(&Error::Backlog), lost.by(&Error::Unknown)),
         (8, 2, 0)
     );
     assert_eq!(registry.clone().lost(), lost);
@@ -118,7 +118,7 @@ fn a_scope_runs_wherever_it_is() -> Result<(), Error> {
     assert!(panics.is_err());
     // The first entry had a place; its exit is owed.
     assert_eq!(
-        (runs, registry.lost().by(Error::Backlog), registry.counts().owed),
+        (runs, registry.lost().by(&Error::Backlog), registry.counts().owed),
         (10, 10, 1)
     );
     Ok(())

@@ -215,7 +215,7 @@ fn an_event_is_told_under_a_parent_of_its_own() -> Result<(), Error> {
         Err(Error::Unknown)
     );
     event!(registry, target: "app", parent: id, Level::Info, "8");
-    assert_eq!(registry.lost().by(Error::Unknown), 1);
+    assert_eq!(registry.lost().by(&Error::Unknown), 1);
     Ok(())
 }
 

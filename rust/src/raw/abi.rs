@@ -65,7 +65,8 @@ mod tests {
         let text = |refused: Result<(), crate::Error>| refused.expect_err("they differ").to_string();
         assert_eq!(
             text(same(Differing::Version, 3, 2)),
-            "other library: its version is 3, and this package was written for 2"
+            "other library: its version is 3, and this package was written for 2; \
+             build both of the same sources by `rust/build`"
         );
         let others = [
             ("SpanLimits", SpanSizes { limits: 0, ..SIZES }),

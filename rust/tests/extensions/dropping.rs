@@ -189,7 +189,7 @@ fn a_reader_that_comes_to_drop_it_waits_for_nobody() {
                 assert_eq!(drain.open_spans().map(|open| open.len()), Ok(0));
                 assert_eq!(drain.line().map(|line| line.text), Some("close 1 w0 a".to_owned()));
             }
-            assert_eq!(registry.lost().by(Error::Backlog), 1);
+            assert_eq!(registry.lost().by(&Error::Backlog), 1);
             assert_empty(&registry);
         }
     });

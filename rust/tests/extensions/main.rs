@@ -124,13 +124,22 @@ fn what_is_put_is_what_is_got() -> Result<(), Error> {
 }
 
 /// What each call answers that a closed span's or another registry's id is given.
-fn assert_refused(extensions: Extensions<'_>, error: Error) {
+fn assert_refused(extensions: Extensions<'_>, error: &Error) {
     let (value, seen) = value();
-    assert_eq!(extensions.insert(Arc::clone(&value)), Err(error));
-    assert_eq!(extensions.replace(value).map(|value| value.is_some()), Err(error));
-    assert_eq!(extensions.get::<Value>().map(|value| value.is_some()), Err(error));
-    assert_eq!(extensions.remove::<Value>().map(|value| value.is_some()), Err(error));
-    assert_eq!(extensions.contains::<Value>(), Err(error));
+    assert_eq!(extensions.insert(Arc::clone(&value)), Err(error.clone()));
+    assert_eq!(
+        extensions.replace(value).map(|value| value.is_some()),
+        Err(error.clone())
+    );
+    assert_eq!(
+        extensions.get::<Value>().map(|value| value.is_some()),
+        Err(error.clone())
+    );
+    assert_eq!(
+        extensions.remove::<Value>().map(|value| value.is_some()),
+        Err(error.clone())
+    );
+    assert_eq!(extensions.contains::<Value>(), Err(error.clone()));
     assert!(!is_there(&seen));
 }
 
@@ -141,18 +150,18 @@ fn another_registrys_id_is_refused_and_so_is_that_of_a_span_that_is_not_open() -
         let (other, _other_drain) = compact().parts(parts).build()?;
         let (a, stranger) = (span(&registry, "a"), span(&other, "a"));
         let (of_a, of_stranger) = (carry(a.extensions()), carry(stranger.extensions()));
-        assert_refused(registry.extensions(id_of(&stranger)), Error::OtherRegistry);
-        assert_refused(other.extensions(id_of(&a)), Error::OtherRegistry);
+        assert_refused(registry.extensions(id_of(&stranger)), &Error::OtherRegistry);
+        assert_refused(other.extensions(id_of(&a)), &Error::OtherRegistry);
         let stranger_id = id_of(&stranger);
         drop((stranger, other));
-        assert_refused(registry.extensions(stranger_id), Error::OtherRegistry);
+        assert_refused(registry.extensions(stranger_id), &Error::OtherRegistry);
         // Never open, not open any longer, and given back by its id.
         let a_id = id_of(&a);
-        assert_refused(registry.extensions(id(&registry, 77)), Error::Unknown);
+        assert_refused(registry.extensions(id(&registry, 77)), &Error::Unknown);
         assert_eq!((is_there(&of_a), is_there(&of_stranger)), (true, false));
         assert_eq!((registry.try_close(a_id), is_there(&of_a)), (Ok(true), false));
-        assert_refused(registry.extensions(a_id), Error::Unknown);
-        assert_refused(a.extensions(), Error::Unknown);
+        assert_refused(registry.extensions(a_id), &Error::Unknown);
+        assert_refused(a.extensions(), &Error::Unknown);
     }
     Ok(())
 }
@@ -169,7 +178,7 @@ fn a_slots_next_span_carries_nothing_of_the_last() -> Result<(), Error> {
         // Some carry nothing.
         let seen = (generation % 3 > 0).then(|| carry(a.extensions()));
         if let Some(last) = last {
-            assert_refused(registry.extensions(last), Error::Unknown);
+            assert_refused(registry.extensions(last), &Error::Unknown);
             assert!(seen.as_ref().is_none_or(is_there));
         }
         drop(a);

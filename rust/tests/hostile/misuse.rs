@@ -45,7 +45,7 @@ fn forged_ids_in(parts: u32) -> Result<(), Error> {
             continue;
         };
         assert_eq!(registry.find(id), None);
-        assert_eq!(of_all_calls(&registry, id), [Err(Error::Unknown); 10], "{id}");
+        assert_eq!(of_all_calls(&registry, id), [const { Err(Error::Unknown) }; 10], "{id}");
     }
     assert_eq!(still(registry.counts()), before);
     assert_eq!(texts(&mut drain).len(), 6);
@@ -67,7 +67,7 @@ fn the_ids_of_a_thousand_registries_are_told_apart() -> Result<(), Error> {
         if number % 2 == 0 {
             kept.push((b, drain));
         }
-        assert_eq!(of_all_calls(&registry, id), [Err(Error::OtherRegistry); 10]);
+        assert_eq!(of_all_calls(&registry, id), [const { Err(Error::OtherRegistry) }; 10]);
         assert_eq!((registry.find(id), Some(id) == a.id()), (None, false));
     }
     assert_eq!(registry.counts(), before);
@@ -134,7 +134,7 @@ fn a_thread_that_is_inside_nothing_owes_no_exit() -> Result<(), Error> {
     let inside = a.try_enter()?;
     let (there, id) = (registry.clone(), a.id().expect("wanted"));
     let asking = thread::spawn(move || [there.exit_or_owe(id), there.exit(id).map(drop), there.exit_or_owe(id)]);
-    assert_eq!(asking.join().expect("no panic"), [Err(Error::NotEntered); 3]);
+    assert_eq!(asking.join().expect("no panic"), [const { Err(Error::NotEntered) }; 3]);
     assert_eq!(registry.find(id).map(|found| found.entries), Some(1));
     drop(inside);
     Ok(())

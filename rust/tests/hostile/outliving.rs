@@ -260,7 +260,7 @@ fn a_writer_may_call_the_registry_while_it_is_dropped() -> Result<(), Box<dyn st
         event!(registry, Level::Info, "m");
         assert_eq!(guard.finish()?, 1);
         assert_eq!(heard.recv_timeout(Duration::from_secs(60))?, "dropped");
-        assert_eq!(registry.lost().by(Error::Unknown), 0);
+        assert_eq!(registry.lost().by(&Error::Unknown), 0);
     }
     Ok(())
 }

@@ -151,9 +151,9 @@ fn a_drain_that_is_dropped_in_the_middle_holds_nobody_up() {
             });
         });
         // Nobody makes place any longer, and no call needs that.
-        let refused = registry.lost().by(Error::Backlog);
+        let refused = registry.lost().by(&Error::Backlog);
         run(&registry, many(1000), &HONEST);
-        assert_eq!(registry.lost().by(Error::Backlog), refused);
+        assert_eq!(registry.lost().by(&Error::Backlog), refused);
         wait_until(&registry, |now| now.threads <= 1 && (now.open, now.owed) == (0, 0));
         assert_nothing_stays(&registry);
         assert!(registry.lost().lines() > 0);

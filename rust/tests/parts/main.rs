@@ -370,7 +370,7 @@ fn what_was_lost_is_told_once() -> Result<(), Error> {
             drop(span!(registry, parent: gone, Level::Info, "b"));
         });
     }
-    assert_eq!((registry.lost().by(Error::Unknown), registry.lost().calls()), (3, 3));
+    assert_eq!((registry.lost().by(&Error::Unknown), registry.lost().calls()), (3, 3));
     assert!(registry.worker().is_ok());
     // The next call of whatever thread and part tells it.
     let told = texts(&mut drain);

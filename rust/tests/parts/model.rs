@@ -240,7 +240,7 @@ impl Pair {
         let registry = self.registry.clone();
         self.callers[thread]
             .does(move || call(&registry))
-            .map_err(Error::number)
+            .map_err(|error| error.number())
     }
 
     fn step(&mut self) {

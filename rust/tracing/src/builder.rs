@@ -114,7 +114,7 @@ fn room_of_part(slots: u32) -> Result<Vec<AtomicU64>, Error> {
 }
 
 /// Why there is no default subscriber by [`SubscriberBuilder::init`].
-#[derive(Clone, Copy, Debug, PartialEq, Eq)]
+#[derive(Clone, Debug, PartialEq, Eq)]
 #[non_exhaustive]
 pub enum InitError {
     /// The registry could not be built.

@@ -4,8 +4,9 @@ use span_registry::Error;
 use std::fmt;
 use std::sync::atomic::{AtomicU64, Ordering};
 
+const REASONS_COUNT: usize = 7;
 /// Why a call by an id may be refused; whatever else it is stands last.
-const REASONS: [(&str, Error); 7] = [
+static REASONS: [(&str, Error); REASONS_COUNT] = [
     ("unknown", Error::Unknown),
     ("count_full", Error::CountFull),
     ("not_entered", Error::NotEntered),
@@ -15,17 +16,17 @@ const REASONS: [(&str, Error); 7] = [
     ("other", Error::BadData),
 ];
 
-fn place_of(reason: Error) -> usize {
-    REASONS.iter().position(|(_, known)| *known == reason).unwrap_or(REASONS.len() - 1)
+fn place_of(reason: &Error) -> usize {
+    REASONS.iter().position(|(_, known)| known == reason).unwrap_or(REASONS_COUNT - 1)
 }
 
 /// The calls by ids that were refused. The package counts those that make spans and tell events.
 #[derive(Default)]
-pub(crate) struct Losses([AtomicU64; REASONS.len()]);
+pub(crate) struct Losses([AtomicU64; REASONS_COUNT]);
 
 impl Losses {
     #[cold]
-    pub(crate) fn lose(&self, reason: Error) {
+    pub(crate) fn lose(&self, reason: &Error) {
         self.0[place_of(reason)].fetch_add(1, Ordering::Relaxed);
     }
 
@@ -42,7 +43,7 @@ impl Losses {
 #[derive(Clone, Copy, Debug, PartialEq, Eq)]
 pub struct Lost {
     made: span_registry::Lost,
-    by_id: [u64; REASONS.len()],
+    by_id: [u64; REASONS_COUNT],
 }
 
 impl Lost {
@@ -61,7 +62,7 @@ impl Lost {
     /// The calls of this reason. [`Unknown`](Error::Unknown) and [`NotEntered`](Error::NotEntered) are misuse: an id
     /// that was given back too often, a span that was left and not entered.
     #[must_use]
-    pub fn by(&self, reason: Error) -> u64 {
+    pub fn by(&self, reason: &Error) -> u64 {
         self.made.by(reason) + self.by_id[place_of(reason)]
     }
 
@@ -75,7 +76,7 @@ impl Lost {
     #[must_use]
     pub fn reasons(&self) -> Vec<(&'static str, u64)> {
         let mut all: Vec<(&'static str, u64)> = self.made.reasons().collect();
-        for ((name, _), count) in REASONS.into_iter().zip(self.by_id) {
+        for (&(name, _), count) in REASONS.iter().zip(self.by_id) {
             match all.iter_mut().find(|(known, _)| *known == name) {
                 Some((_, sum)) => *sum += count,
                 None => all.push((name, count)),
@@ -103,12 +104,12 @@ mod tests {
     fn losses_are_counted_by_reason() {
         let losses = Losses::default();
         assert_eq!(losses.so_far(Default::default()).to_string(), "nothing");
-        for (at, (_, reason)) in REASONS.into_iter().enumerate() {
+        for (at, (_, reason)) in REASONS.iter().enumerate() {
             (0..=at).for_each(|_| losses.lose(reason));
         }
-        losses.lose(Error::Full);
+        losses.lose(&Error::Full);
         let lost = losses.so_far(Default::default());
-        assert_eq!((lost.calls(), lost.by(Error::NotEntered), lost.by(Error::Full)), (29, 3, 8));
+        assert_eq!((lost.calls(), lost.by(&Error::NotEntered), lost.by(&Error::Full)), (29, 3, 8));
         assert!(lost.to_string().starts_with("unknown=1 count_full=2 not_entered=3 "), "{lost}");
         assert!(!lost.is_nothing());
     }

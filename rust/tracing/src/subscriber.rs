@@ -79,7 +79,7 @@ impl ProvedSubscriber {
 
     // The answer of a call by an id; none where it was refused, which is counted.
     fn or_lost<T>(&self, result: Result<T, Error>) -> Option<T> {
-        result.map_err(|reason| self.inner.losses.lose(reason)).ok()
+        result.map_err(|reason| self.inner.losses.lose(&reason)).ok()
     }
 
     // None for the id of a span that wasn't made.

@@ -187,7 +187,7 @@ fn ids_given_back_too_often_close_nothing_too_early() {
         assert_eq!(subscriber.registry().counts().open, 0);
         drop(held);
     });
-    assert_eq!(subscriber.lost().by(Error::Unknown), 3);
+    assert_eq!(subscriber.lost().by(&Error::Unknown), 3);
     assert_closed(&subscriber);
 }
 
@@ -221,12 +221,12 @@ fn what_is_refused_is_counted_by_reason() {
         let a = info_span!("a");
         let b = info_span!("b");
         drop(info_span!("c"));
-        assert_eq!(subscriber.lost().by(Error::Full), 1);
+        assert_eq!(subscriber.lost().by(&Error::Full), 1);
         let clones = [a.clone(), a.clone(), a.clone()];
         // Two of the clones hold nothing, and neither does the entry.
-        assert_eq!(subscriber.lost().by(Error::CountFull), 1);
+        assert_eq!(subscriber.lost().by(&Error::CountFull), 1);
         a.in_scope(|| info!("outside"));
-        assert_eq!(subscriber.lost().by(Error::CountFull), 2);
+        assert_eq!(subscriber.lost().by(&Error::CountFull), 2);
         drop((clones, a, b));
         assert_closed(&subscriber);
         for _ in 0..80 {
@@ -234,8 +234,8 @@ fn what_is_refused_is_counted_by_reason() {
         }
     });
     let lost = subscriber.lost();
-    assert_eq!((lost.by(Error::Full), lost.calls()), (1, 3 + lost.by(Error::Backlog)));
-    assert!(lost.by(Error::Backlog) > 16, "{lost}");
+    assert_eq!((lost.by(&Error::Full), lost.calls()), (1, 3 + lost.by(&Error::Backlog)));
+    assert!(lost.by(&Error::Backlog) > 16, "{lost}");
     let lines = texts(&mut drain);
     assert!(lines.contains(&"event 0 w0 - INFO outside".to_owned()), "{lines:?}");
     // What the package counts it tells, once there is room.

@@ -274,7 +274,7 @@ fn written(on_full: OnFull, out: impl io::Write + Send + 'static) -> (Lost, io::
     let (made, lost) = (subscriber.registry().counts().made, subscriber.lost());
     assert!(made == spans * THREADS as u64 || on_full == OnFull::Refuse, "{made} made");
     // Where an entry was refused, its exit and what else goes with it is no misuse.
-    assert_eq!(lost.calls(), lost.by(Error::Backlog), "{lost}");
+    assert_eq!(lost.calls(), lost.by(&Error::Backlog), "{lost}");
     (lost, ended)
 }
 
