@@ -2,7 +2,7 @@
 mod common;
 
 use common::{assert_empty, compact, id, span, texts, Ids};
-use span_registry::{Callsite, Drain, Entered, Error, Parent, Registry, Span};
+use span_registry::{Callsite, Drain, Entered, Error, Guard, Parent, Registry, Span};
 use std::collections::hash_map::DefaultHasher;
 use std::hash::{BuildHasher, BuildHasherDefault};
 use std::panic::{catch_unwind, AssertUnwindSafe};
@@ -11,12 +11,13 @@ use std::thread;
 #[test]
 fn what_threads_share_may_be_shared() {
     fn is_send_and_sync<T: Send + Sync>() {}
-    fn is_send<T: Send>() {}
     is_send_and_sync::<Registry>();
     is_send_and_sync::<Span>();
     is_send_and_sync::<Callsite>();
     is_send_and_sync::<Error>();
-    is_send::<Drain>();
+    // What a shared one can be asked reads what is atomic or has a lock; all that reads lines takes `&mut`.
+    is_send_and_sync::<Drain>();
+    is_send_and_sync::<Guard>();
 }
 
 #[test]
