@@ -8,6 +8,7 @@ mod closing;
 mod lines;
 mod queries;
 mod short;
+mod structs;
 mod telling;
 
 pub(crate) use calls::{Core, Start};
@@ -16,141 +17,9 @@ pub(crate) use lines::{Lines, Next, NextNote};
 #[cfg(test)]
 pub(crate) use short::SHORT;
 pub(crate) use short::{Short, FEW};
+pub(crate) use structs::{SpanCounts, SpanField, SpanFound, SpanHeld, SpanLayer, SpanLimits, SpanNote, SpanRule};
 
-use std::ffi::c_void;
-use std::ptr;
-
-#[repr(C)]
-struct SpanRegistry {
-    at: *mut c_void,
-}
-
-#[repr(C)]
-struct SpanDrain {
-    at: *mut c_void,
-}
-
-impl SpanRegistry {
-    const EMPTY: SpanRegistry = SpanRegistry { at: ptr::null_mut() };
-}
-
-impl SpanDrain {
-    const EMPTY: SpanDrain = SpanDrain { at: ptr::null_mut() };
-}
-
-#[repr(C)]
-#[derive(Clone, Copy, Debug)]
-pub(crate) struct SpanLimits {
-    pub(crate) slots: u32,
-    pub(crate) last_generation: u32,
-    pub(crate) max_count: u32,
-    pub(crate) workers: u32,
-    pub(crate) ring: u32,
-}
-
-#[repr(C)]
-#[derive(Clone, Copy, Debug)]
-pub(crate) struct SpanLayer {
-    pub(crate) form: u32,
-    pub(crate) kinds: u32,
-    pub(crate) rules: u32,
-}
-
-#[repr(C)]
-#[derive(Clone, Copy, Debug)]
-pub(crate) struct SpanRule {
-    pub(crate) prefix_len: u32,
-    pub(crate) level: u32,
-}
-
-#[repr(C)]
-#[derive(Default)]
-struct SpanMeta {
-    level: u32,
-    name_len: u32,
-    target_len: u32,
-}
-
-#[repr(C)]
-#[derive(Clone, Copy, Debug, Default, PartialEq, Eq)]
-pub(crate) struct SpanField {
-    pub(crate) key_len: u32,
-    pub(crate) value_len: u32,
-}
-
-impl SpanField {
-    /// How many bytes its key and its value have.
-    pub(crate) fn bytes(self) -> usize {
-        self.key_len as usize + self.value_len as usize
-    }
-}
-
-#[repr(C)]
-#[derive(Clone, Copy, Debug, Default)]
-pub(crate) struct SpanFound {
-    pub(crate) parent: u64,
-    pub(crate) handles: u32,
-    pub(crate) entries: u32,
-    pub(crate) count: u32,
-    pub(crate) level: u32,
-}
-
-#[repr(C)]
-#[derive(Clone, Copy, Debug, Default)]
-pub(crate) struct SpanHeld {
-    pub(crate) id: u64,
-    pub(crate) handles: u32,
-    pub(crate) entries: u32,
-}
-
-#[repr(C)]
-#[derive(Clone, Copy, Debug, Default)]
-pub(crate) struct SpanCounts {
-    pub(crate) made: u64,
-    pub(crate) closed: u64,
-    pub(crate) calls: u64,
-    pub(crate) held: u64,
-    pub(crate) open: u32,
-    pub(crate) workers: u32,
-}
-
-#[repr(C)]
-#[derive(Clone, Copy, Debug, Default, PartialEq, Eq)]
-pub(crate) struct SpanNote {
-    pub(crate) batch: u64,
-    pub(crate) id: u64,
-    pub(crate) layer: u32,
-    pub(crate) kind: u32,
-    pub(crate) worker: u32,
-    pub(crate) level: u32,
-    pub(crate) path_len: u32,
-    pub(crate) message_len: u32,
-}
-
-#[repr(C)]
-#[allow(dead_code)]
-struct SpanHeading {
-    stamp: u64,
-    parent: u64,
-    has_callsite: u32,
-    callsite: u32,
-    level: u32,
-    name_len: u32,
-    target_len: u32,
-}
-
-#[repr(C)]
-#[derive(Clone, Copy, Debug, Default, PartialEq, Eq)]
-struct SpanSizes {
-    limits: u32,
-    layer: u32,
-    rule: u32,
-    meta: u32,
-    field: u32,
-    found: u32,
-    held: u32,
-    counts: u32,
-}
+use structs::{SpanDrain, SpanHeading, SpanMeta, SpanRegistry, SpanSizes};
 
 const ABI_VERSION: u32 = 3;
 
@@ -411,28 +280,7 @@ pub(crate) fn status_text(status: u32) -> String {
 
 #[cfg(test)]
 mod tests {
-    use super::*;
-    use std::mem::{offset_of, size_of};
-
-    #[test]
-    fn structs_have_the_sizes_that_c_gives_them() {
-        assert_eq!(size_of::<SpanRegistry>(), size_of::<*mut c_void>());
-        assert_eq!(size_of::<SpanDrain>(), size_of::<*mut c_void>());
-        assert_eq!(size_of::<SpanLimits>(), 20);
-        assert_eq!(size_of::<SpanLayer>(), 12);
-        assert_eq!(size_of::<SpanRule>(), 8);
-        assert_eq!(size_of::<SpanMeta>(), 12);
-        assert_eq!(size_of::<SpanField>(), 8);
-        assert_eq!((size_of::<SpanFound>(), offset_of!(SpanFound, level)), (24, 20));
-        assert_eq!((size_of::<SpanHeld>(), offset_of!(SpanHeld, entries)), (16, 12));
-        assert_eq!((size_of::<SpanCounts>(), offset_of!(SpanCounts, open)), (40, 32));
-        assert_eq!((size_of::<SpanNote>(), offset_of!(SpanNote, message_len)), (40, 36));
-        assert_eq!(
-            (size_of::<SpanHeading>(), offset_of!(SpanHeading, target_len)),
-            (40, 32)
-        );
-        assert_eq!(size_of::<SpanSizes>(), 32);
-    }
+    use super::status_text;
 
     #[test]
     fn each_status_has_a_text_of_one_line() {

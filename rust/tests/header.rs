@@ -1,6 +1,12 @@
-//! That `src/raw.rs` declares what the C header declares: the same functions, structs and constants.
+//! That `src/raw.rs` declares what the C header declares: the same functions, structs and constants, and that the
+//! structs lie in memory as C lays them.
+#[path = "../src/raw/structs.rs"]
+#[allow(dead_code)]
+mod structs;
+
 use std::collections::BTreeMap;
 use std::fs;
+use std::mem::{offset_of, size_of};
 use std::path::Path;
 
 /// By name: the types of a function's parameters, or the names and types of a struct's fields.
@@ -25,6 +31,10 @@ fn header() -> String {
 
 fn raw() -> String {
     without(read("src/raw.rs"), "//", "\n")
+}
+
+fn structs() -> String {
+    without(read("src/raw/structs.rs"), "//", "\n")
 }
 
 /// Each text that stands between `open` and the next `close`.
@@ -107,8 +117,8 @@ fn structs_of_rust(raw: &str) -> Declared {
     let structs = between(raw, "struct ", "}").filter_map(|text| text.split_once('{'));
     structs
         .map(|(name, fields)| {
-            let fields = list(fields, ',').map(|field| field.trim_start_matches("pub(crate) ").to_owned());
-            (name.trim().to_owned(), fields.collect())
+            let bare = |field: &str| field.split_once(") ").map_or(field, |(_, bare)| bare).to_owned();
+            (name.trim().to_owned(), list(fields, ',').map(bare).collect())
         })
         .collect()
 }
@@ -124,8 +134,72 @@ fn the_functions_are_those_of_the_header() {
 fn the_structs_are_those_of_the_header() {
     let wanted = structs_of_c(&header());
     assert_eq!(wanted.len(), 13, "{:?}", wanted.keys());
-    assert_eq!(structs_of_rust(&raw()), wanted);
-    assert_eq!(raw().matches("#[repr(C)]").count(), wanted.len());
+    assert_eq!(structs_of_rust(&structs()), wanted);
+    assert_eq!(structs().matches("#[repr(C)]").count(), wanted.len());
+}
+
+/// How many bytes a struct has, and at which of them each field begins.
+type Laid = (usize, Vec<(String, usize)>);
+
+/// As C lays fields of these types (`name: type`): each at the next multiple of its size, and behind the last as much
+/// as the greatest of them needs.
+fn laid_by_c(fields: &[String]) -> Laid {
+    let (mut end, mut greatest, mut places) = (0_usize, 1, Vec::new());
+    for field in fields {
+        let (name, kind) = field.split_once(": ").expect("a type");
+        let size = match kind {
+            "u8" => size_of::<u8>(),
+            "u32" => size_of::<u32>(),
+            "u64" => size_of::<u64>(),
+            "usize" => size_of::<usize>(),
+            pointer if pointer.starts_with('*') => size_of::<*const u8>(),
+            other => panic!("how long is {other}?"),
+        };
+        let place = end.next_multiple_of(size);
+        places.push((name.to_owned(), place));
+        (end, greatest) = (place + size, greatest.max(size));
+    }
+    (end.next_multiple_of(greatest), places)
+}
+
+/// The structs with all of their fields, as Rust lays them.
+macro_rules! laid {
+    ($($name:ident { $($field:ident),* })*) => {
+        [$({
+            // So that none is forgotten.
+            let _all = |structs::$name { $($field: _),* }: structs::$name| ();
+            let places = vec![$((stringify!($field).to_owned(), offset_of!(structs::$name, $field))),*];
+            (stringify!($name).to_owned(), (size_of::<structs::$name>(), places))
+        }),*]
+    };
+}
+
+#[test]
+fn the_structs_lie_in_memory_as_those_of_the_header() {
+    let laid: [(String, Laid); 13] = laid! {
+        SpanRegistry { at }
+        SpanDrain { at }
+        SpanLimits { slots, last_generation, max_count, workers, ring }
+        SpanLayer { form, kinds, rules }
+        SpanRule { prefix_len, level }
+        SpanMeta { level, name_len, target_len }
+        SpanField { key_len, value_len }
+        SpanFound { parent, handles, entries, count, level }
+        SpanHeld { id, handles, entries }
+        SpanCounts { made, closed, calls, held, open, workers }
+        SpanNote { batch, id, layer, kind, worker, level, path_len, message_len }
+        SpanHeading { stamp, parent, has_callsite, callsite, level, name_len, target_len }
+        SpanSizes { limits, layer, rule, meta, field, found, held, counts }
+    };
+    let of_c = structs_of_c(&header()).into_iter();
+    let wanted: BTreeMap<String, Laid> = of_c.map(|(name, fields)| (name, laid_by_c(&fields))).collect();
+    assert_eq!(BTreeMap::from(laid), wanted);
+    // What 64 bits make of them.
+    let size = |name: &str| wanted[name].0;
+    assert_eq!(
+        [size("SpanNote"), size("SpanHeading"), size("SpanLimits")],
+        [40, 40, 20]
+    );
 }
 
 #[test]

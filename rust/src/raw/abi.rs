@@ -18,7 +18,8 @@ pub(super) fn check() -> Result<(), Error> {
     compare(&sizes)
 }
 
-/// Each size in the library beside the one here.
+/// Each size in the library beside the one here. It tells none of `SpanNote`, `SpanHeading` and `SpanSizes`: those stand
+/// for what the version does, which rises where they change. `tests/header.rs` compares all with the header.
 fn compare(there: &SpanSizes) -> Result<(), Error> {
     same(Differing::Limits, there.limits, size_of::<SpanLimits>() as u32)?;
     same(Differing::Layer, there.layer, size_of::<SpanLayer>() as u32)?;
