@@ -72,7 +72,7 @@ fn traced(note: &Note, open: &mut Open) -> Option<String> {
 }
 
 /// Until the registry and its spans are gone.
-fn write(mut drain: Drain, mut out: impl Write) -> io::Result<()> {
+pub fn write(mut drain: Drain, mut out: impl Write) -> io::Result<()> {
     write!(out, "{{\"traceEvents\":[")?;
     let (mut comma, mut open) = ("\n", Open::new());
     loop {
