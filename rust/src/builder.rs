@@ -45,7 +45,8 @@ impl Layer {
         Layer::new(Form::Compact)
     }
 
-    /// In JSON.
+    /// In JSON: fields, id, kind, path and worker, of an event its level and message too. Parents, targets, times and
+    /// the kinds of values are told by [`tree`](Layer::tree) alone.
     #[must_use]
     pub fn json() -> Layer {
         Layer::new(Form::Json)

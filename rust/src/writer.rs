@@ -111,9 +111,9 @@ impl Asked {
 
 /// A thread writes the lines as they come, until this is dropped. By then all lines of the calls that were accepted
 /// before are written and flushed, whatever spans are still open and whatever other threads go on to do, unless a
-/// write fails, memory is refused, or the writer itself drops this, which doesn't wait for its own end. Then it is
-/// told which spans are open, as [`Drain::run_until`] does. Drop it where nothing is held that the writer waits for,
-/// as standard output's lock.
+/// write fails, memory is refused, or the writer itself drops this, which doesn't wait for its own end. Then layers
+/// that admit `WARN` of the target `span_registry` are told which spans are open, as by [`Drain::run_until`]. Drop it
+/// where nothing is held that the writer waits for, as standard output's lock.
 ///
 /// Where a write fails or panics, the rest is read and thrown away, so that no call waits for a writer that is gone,
 /// and [`finish`](Guard::finish) tells the failure. The thread also ends where the registry, its clones and its spans
@@ -302,6 +302,10 @@ impl Registry {
 impl RegistryBuilder {
     /// The registry, and the guard of a thread that writes all its lines. Give the guard a name: `_` drops it at once.
     /// Where nothing else was said by [`on_full`](RegistryBuilder::on_full), a call that finds the ring full waits.
+    ///
+    /// What was [lost](crate::Lost), and at the end the spans that are still open, is told at `WARN` of the target
+    /// `span_registry`: a layer of `app=info` is told of neither, one of `app=info,span_registry=warn` of both.
+    /// [`Guard::open_spans`] and [`Registry::lost`] answer it to the program, whatever the layers are.
     ///
     /// # Errors
     /// Those of [`build`](RegistryBuilder::build), and [`OutOfMemory`](Error::OutOfMemory) where no thread can be

@@ -2,7 +2,7 @@
 mod common;
 
 use common::{compact, info, span as by_meta};
-use span_registry::{span, Error, Level, Meta, OpenSpan, Parent, Registry};
+use span_registry::{span, Error, Layer, Level, Meta, OpenSpan, Parent, Registry};
 use std::sync::atomic::AtomicBool;
 use std::sync::Barrier;
 use std::thread;
@@ -238,6 +238,30 @@ fn a_drain_and_a_guard_tell_what_is_open_at_the_end() -> Result<(), Box<dyn std:
     assert_eq!(guard.open_spans()?.len(), 1);
     assert_eq!(guard.finish()?, 2);
     drop(b);
+    Ok(())
+}
+
+#[test]
+fn layers_that_admit_the_registrys_own_target_are_told_what_is_open() -> Result<(), Box<dyn std::error::Error>> {
+    let targets = [
+        "app=info",
+        "app=info,span_registry=warn",
+        "app=info,span_registry=error",
+    ];
+    let mut builder = Registry::builder().workers(1);
+    for text in targets {
+        builder = builder.layer(Layer::compact().with_targets(text.parse()?));
+    }
+    let (registry, mut drain) = builder.build()?;
+    let a = by_meta(&registry, "a");
+    let (stop, mut outs) = (AtomicBool::new(true), [Vec::new(), Vec::new(), Vec::new()]);
+    drain.run_layers_until(&mut outs, &stop)?;
+    let [silent, told, other] = outs.map(|out| String::from_utf8(out).expect("UTF-8"));
+    assert_eq!((&*silent, &silent), ("new 1 w0 a\n", &other));
+    let open = "event 0 w1 - WARN open span=1 name=a handles=1 entries=0 children=0\n";
+    assert_eq!(told, format!("{silent}{open}"));
+    assert_eq!(drain.open_spans()?.len(), 1);
+    drop(a);
     Ok(())
 }
 

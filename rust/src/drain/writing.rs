@@ -47,7 +47,8 @@ impl Drain {
     ///
     /// Of the spans that are open then, 100 at most, each is told as an event `open` at `WARN` of the target
     /// `span_registry` to layers that admit that: `event 0 w256 - WARN open span=1 name=request place=src/main.rs:7
-    /// handles=1 entries=0 children=0`. [`open_spans`](Drain::open_spans) tells all.
+    /// handles=1 entries=0 children=0`. A layer of `app=info` admits it where it has `span_registry=warn` too.
+    /// [`open_spans`](Drain::open_spans) tells all.
     ///
     /// # Errors
     /// Those of [`run`](Drain::run).
