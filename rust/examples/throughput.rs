@@ -6,8 +6,10 @@
 //!
 //! The plain registry does less than the package: it is told which worker calls, its ids don't say whose they are, it
 //! keeps no room for what drops may come to owe, and memory that is refused ends the process. It does more in that it
-//! is given a span's name and target, which it checks and copies each time, where the package has a callsite. Both are
-//! behind the standard `Mutex`, which the package tries for a fraction of a millisecond before a thread sleeps.
+//! is given a span's name and target, which it checks and copies each time, where the package has a callsite, and that
+//! it clones a closing span's fields: plain Rust that does neither makes more calls than the package where there is no
+//! layer. Both are behind the standard `Mutex`, which the package tries for a fraction of a millisecond before a thread
+//! sleeps.
 #[path = "border/plain/mod.rs"]
 // It is whole, though a round needs only a part.
 #[allow(dead_code)]
@@ -124,11 +126,16 @@ fn plain(layers: usize) -> (Plain, PlainDrain) {
     Plain::new(limits, (0..layers).map(layer).collect()).expect("few layers")
 }
 
-/// Makes a call until the ring has a place for it.
-fn again<T>(registry: &Mutex<Plain>, mut call: impl FnMut(&mut Plain) -> Result<T, plain::Refusal>) -> T {
+/// Makes a call until the ring has a place for it. What it is given is made before the lock is taken.
+fn again<G, T>(
+    registry: &Mutex<Plain>,
+    give: impl Fn() -> G,
+    call: impl Fn(&mut Plain, G) -> Result<T, plain::Refusal>,
+) -> T {
     let mut turn = 0;
     loop {
-        let answer = call(&mut registry.lock().unwrap_or_else(PoisonError::into_inner));
+        let given = give();
+        let answer = call(&mut registry.lock().unwrap_or_else(PoisonError::into_inner), given);
         match answer {
             Err(plain::BACKLOG) => wait(turn),
             answer => return answer.expect("nothing but the ring is full"),
@@ -143,14 +150,14 @@ fn plain_round(registry: &Mutex<Plain>, worker: u32) {
         name: "request",
         target: "app::module",
     };
-    let id = again(registry, |registry| {
-        let fields = vec![("k".to_owned(), "value".to_owned())];
+    let fields = || vec![("k".to_owned(), "value".to_owned())];
+    let id = again(registry, fields, |registry, fields| {
         registry.new_span(worker, plain::Parent::Current, &meta, fields)
     });
-    let id = id.expect("it is wanted");
-    again(registry, |registry| registry.enter(worker, id));
-    again(registry, |registry| registry.exit(worker, id));
-    again(registry, |registry| registry.try_close(worker, id));
+    let (id, nothing) = (id.expect("it is wanted"), || ());
+    again(registry, nothing, |registry, ()| registry.enter(worker, id));
+    again(registry, nothing, |registry, ()| registry.exit(worker, id));
+    again(registry, nothing, |registry, ()| registry.try_close(worker, id));
 }
 
 fn of_plain(layers: usize, threads: usize, reading: Reading) -> f64 {
