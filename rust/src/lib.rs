@@ -41,6 +41,7 @@ mod part;
 mod parts;
 #[allow(unsafe_code)]
 mod raw;
+mod recording;
 mod refusal;
 mod registry;
 mod ring;
@@ -78,6 +79,7 @@ pub use writer::Guard;
 pub mod __private {
     pub use crate::key::Key;
     pub use crate::kind::{Asked, OfKind, OfText};
+    pub use crate::recording::Recording;
     pub use crate::site::Site;
 }
 

@@ -118,7 +118,7 @@ macro_rules! __span {
 }
 
 /// Fields one after another, and behind those of an event its message; then it calls what stands in braces with both.
-/// What stands first says whether they are a `span`'s, an `event`'s, or an event's in braces (`inner`).
+/// What stands first says whether they are a `span`'s, an `event`'s, an event's in braces (`inner`), or a `record`'s.
 #[doc(hidden)]
 #[macro_export]
 macro_rules! __fields {
@@ -164,11 +164,17 @@ macro_rules! __fields {
     ($of:ident $to:tt $done:tt $key:ident $(.$more:ident)* = $value:expr; $($rest:tt)*) => {
         ::core::compile_error!("fields have commas between them, and no `;`")
     };
+    (record $to:tt $done:tt $key:ident: $($rest:tt)*) => {
+        ::core::compile_error!("a field is `key = value`; a span's target and parent stay as they are")
+    };
     ($of:ident $to:tt $done:tt $key:ident: $($rest:tt)*) => {
         ::core::compile_error!("a field is `key = value`; `target:` and `parent:` stand before the level")
     };
     (span $to:tt $done:tt $message:literal $($rest:tt)*) => {
         ::core::compile_error!("a span has no message behind its name: put it into a field, or into an event")
+    };
+    (record $to:tt $done:tt $message:literal $($rest:tt)*) => {
+        ::core::compile_error!("a record has no message: put it into a field, or into an event")
     };
     ($of:ident $to:tt $done:tt $($other:tt)*) => {
         ::core::compile_error!("a field is: key = value, key = ?value, key = %value, key, ?key or %key")
@@ -317,6 +323,93 @@ macro_rules! __event {
     };
     ($($other:tt)*) => {
         $crate::__event!(@of $($other)*)
+    };
+}
+
+/// Records fields of a span that is open already: `span, fields`. Fields are those of [`span!`](crate::span), and their
+/// values keep their kinds, where [`Span::record`](crate::Span::record) takes texts. They come behind the span's others,
+/// and a repeated key stands twice. The span is a [`Span`](crate::Span), an [`EnteredSpan`](crate::EnteredSpan) or a
+/// reference to one. Where it is disabled, no value is formatted.
+///
+/// It answers no error: where it is refused, [`Registry::lost`](crate::Registry::lost) counts it.
+/// [`try_record!`](crate::try_record) answers why.
+///
+/// ```
+/// # fn main() -> Result<(), span_registry::Error> {
+/// # let (registry, mut drain) = span_registry::Registry::builder()
+/// #     .layer(span_registry::Layer::tree()).build()?;
+/// use span_registry::{record, span, Kind, Level};
+/// let request = span!(registry, Level::Info, "request", path = "/users");
+/// let user = Some("Ada");
+/// record!(request, status = 200, ?user, response.is_cached = false);
+/// # drop(request);
+/// # let notes: Vec<_> = std::iter::from_fn(|| drain.note()).collect();
+/// let wanted = [
+///     ("path", Kind::Text, "/users"),
+///     ("status", Kind::Integer, "200"),
+///     ("user", Kind::Text, "Some(\"Ada\")"),
+///     ("response.is_cached", Kind::Bool, "false"),
+/// ];
+/// # for (note, wanted) in notes[1..].iter().zip([&wanted[1..], &wanted]) {
+/// #     let fields = note.fields.iter().map(|field| (&*field.key, field.kind, &*field.value));
+/// #     assert_eq!(fields.collect::<Vec<_>>(), wanted);
+/// # }
+/// # assert_eq!(notes.len(), 3);
+/// # Ok(())
+/// # }
+/// ```
+#[macro_export]
+macro_rules! record {
+    ($($arguments:tt)*) => {
+        $crate::__record!(record, (), $($arguments)*)
+    };
+}
+
+/// As [`record!`](crate::record), and answers what [`Registry::record`](crate::Registry::record) does.
+///
+/// ```
+/// # fn main() -> Result<(), span_registry::Error> {
+/// # let (registry, _drain) = span_registry::Registry::builder().build()?;
+/// use span_registry::{span, try_record, Error, Level};
+/// let request = span!(registry, Level::Info, "request");
+/// try_record!(request, status = 200)?;
+/// let refused = try_record!(request, "a key that would have more than 64 bytes as it is written, with blanks" = 1);
+/// assert!(matches!(refused, Err(Error::BadName(_))), "{refused:?}");
+/// # Ok(())
+/// # }
+/// ```
+#[macro_export]
+macro_rules! try_record {
+    ($($arguments:tt)*) => {
+        $crate::__record!(try_record, ::core::result::Result::Ok::<(), $crate::Error>(()), $($arguments)*)
+    };
+}
+
+/// The call that records fields, and what stands for it where the span is disabled.
+#[doc(hidden)]
+#[macro_export]
+macro_rules! __record {
+    (@put $call:ident, $none:expr, $span:expr, [$(($form:ident $key:expr, $value:expr))*] []) => {{
+        // As of a span.
+        let put = match $crate::__private::Recording::of(&$span) {
+            ::core::option::Option::Some(recording) => {
+                recording.$call([$($crate::__field!($form $key, $value)),*])
+            }
+            ::core::option::Option::None => $none,
+        };
+        put
+    }};
+    ($call:ident, $none:expr, $key:ident $(.$more:ident)* = $($rest:tt)*) => {
+        ::core::compile_error!("the span comes first: span, key = value")
+    };
+    ($call:ident, $none:expr, $key:literal $($rest:tt)*) => {
+        ::core::compile_error!("the span comes first: span, key = value")
+    };
+    ($call:ident, $none:expr, $span:expr, $($fields:tt)+) => {
+        $crate::__fields!(record { __record @put $call, $none, $span } [] $($fields)+)
+    };
+    ($($other:tt)*) => {
+        ::core::compile_error!("a record is: span, key = value [, key = value]*")
     };
 }
 

@@ -4,7 +4,7 @@ use crate::at::At;
 use crate::builder::RegistryBuilder;
 use crate::error::Error;
 use crate::level::Level;
-use crate::meta::{Counts, Fields, Found, Id, Meta, Parent, RawId, RawParent};
+use crate::meta::{Counts, Fields, Found, Given, Id, Meta, Parent, RawId, RawParent};
 use crate::names::{named, NO_NAME};
 use crate::packed::packed;
 use crate::part::{wait, Part};
@@ -208,14 +208,21 @@ impl Registry {
         Ok(made.map(|id| (at.part, id)))
     }
 
-    /// Puts fields at the end of a span's list. A repeated key stands twice.
+    /// Puts fields at the end of a span's list. A repeated key stands twice. The values are texts: [`record!`](crate::record)
+    /// keeps their kinds.
     ///
     /// # Errors
     /// [`OtherRegistry`](Error::OtherRegistry), [`BadName`](Error::BadName) for a key, [`Unknown`](Error::Unknown),
     /// [`Backlog`](Error::Backlog), [`OutOfMemory`](Error::OutOfMemory), [`BadData`](Error::BadData).
     pub fn record(&self, id: Id, fields: Fields<'_>) -> Result<(), Error> {
+        self.record_given(id, &fields.into())
+    }
+
+    // What the macros make in other crates calls this, so it isn't inlined: else all that it uses, which each call looks
+    // at, would have to be seen there too.
+    pub(crate) fn record_given(&self, id: Id, fields: &Given<'_>) -> Result<(), Error> {
         let (at, id) = self.own(id)?;
-        named(NO_NAME, &fields.into(), move |_, given| {
+        named(NO_NAME, fields, move |_, given| {
             packed(&[], given.fields, |texts| {
                 at.call(move |state, worker| state.record(worker, id, given, texts))
             })

@@ -142,23 +142,23 @@ pub struct Wanted<'a> {
 }
 
 /// A key, a value's text, and its kind.
-type Field = (&'static str, String, Kind);
+pub(crate) type Field = (&'static str, String, Kind);
+
+/// Makes a call with keys and values, and the kinds beside these.
+pub(crate) fn given<T, const N: usize>(fields: [Field; N], call: impl FnOnce(&Given<'_>) -> T) -> T {
+    let texts = fields.each_ref().map(|(key, value, _)| (*key, &**value));
+    let kinds = fields.each_ref().map(|&(_, _, kind)| kind);
+    call(&Given {
+        fields: &texts,
+        kinds: &kinds,
+    })
+}
 
 impl Wanted<'_> {
-    // What is given as keys with values and beside these as kinds.
-    fn given<T, const N: usize>(fields: [Field; N], call: impl FnOnce(&Given<'_>) -> T) -> T {
-        let texts = fields.each_ref().map(|(key, value, _)| (*key, &**value));
-        let kinds = fields.each_ref().map(|&(_, _, kind)| kind);
-        call(&Given {
-            fields: &texts,
-            kinds: &kinds,
-        })
-    }
-
     /// For `try_span!`.
     pub fn try_span<const N: usize>(self, parent: Parent, fields: [Field; N]) -> Result<Span, Error> {
         let callsite = self.callsite?;
-        Self::given(fields, |given| self.registry.span_at_number(callsite, parent, given))
+        given(fields, |given| self.registry.span_at_number(callsite, parent, given))
     }
 
     /// For `span!`: a disabled span where it is refused.
@@ -170,7 +170,7 @@ impl Wanted<'_> {
     /// For `try_event!`.
     pub fn try_event<const N: usize>(self, parent: Parent, message: &str, fields: [Field; N]) -> Result<(), Error> {
         let callsite = self.callsite?;
-        Self::given(fields, |given| {
+        given(fields, |given| {
             self.registry.event_at_number(callsite, parent, message, given)
         })
     }

@@ -139,7 +139,8 @@ impl Span {
         Ok(run())
     }
 
-    /// Puts fields at the end of the span's list. A repeated key stands twice.
+    /// Puts fields at the end of the span's list. A repeated key stands twice. The values are texts:
+    /// [`record!`](crate::record) keeps their kinds.
     pub fn record(&self, fields: Fields<'_>) -> &Span {
         self.or_lost(|handle| handle.record(fields));
         self
@@ -190,8 +191,12 @@ impl Span {
     /// What the span carries of the program's own.
     #[must_use]
     pub fn extensions(&self) -> Extensions<'_> {
-        let handle = self.0.as_deref();
-        Extensions::of(handle.map(|handle| (&handle.registry, handle.id())))
+        Extensions::of(self.own())
+    }
+
+    /// Its registry and its id there; none where it is disabled.
+    pub(crate) fn own(&self) -> Option<(&Registry, Id)> {
+        self.0.as_deref().map(|handle| (&handle.registry, handle.id()))
     }
 
     // None of a disabled span, and where it is refused.
@@ -256,7 +261,7 @@ impl Handle {
     }
 
     fn record(&self, fields: Fields<'_>) -> Result<(), Error> {
-        self.registry.record(self.id(), fields)
+        self.registry.record_given(self.id(), &fields.into())
     }
 }
 

@@ -6,7 +6,7 @@ mod compiling;
 use compiling::Compiling;
 
 /// The statement, and what the compiler has to say of it; nothing where it is right.
-const PROGRAMS: [(&str, &str); 20] = [
+const PROGRAMS: [(&str, &str); 33] = [
     // Of a variable that isn't there the compiler says so by itself.
     (
         r#"span!(r, Level::Info, "x", user);"#,
@@ -68,6 +68,28 @@ const PROGRAMS: [(&str, &str); 20] = [
     ),
     (
         r#"span!(r, Level::Info, "x", s = S);"#,
+        "the trait `std::fmt::Display` is not implemented for `S`",
+    ),
+    (r#"record!(s, http.status = 200, %n, ?S, "a key" = true,);"#, ""),
+    (r#"try_record!(&s, n)?;"#, ""),
+    (r#"record!(status = 200);"#, "the span comes first: span, key = value"),
+    (
+        r#"record!(http.status = 200, n = 1);"#,
+        "the span comes first: span, key = value",
+    ),
+    (r#"record!("k" = 1);"#, "the span comes first: span, key = value"),
+    (r#"record!(s);"#, "a record is: span, key = value [, key = value]*"),
+    (r#"record!(?n, s);"#, "a record is: span, key = value [, key = value]*"),
+    (
+        r#"record!(s, n = 1; b = 2);"#,
+        "fields have commas between them, and no `;`",
+    ),
+    (r#"record!(s, "done");"#, "a record has no message"),
+    (r#"record!(s, parent: None);"#, "a span's target and parent stay"),
+    (r#"record!(s, &[("k", "v")]);"#, "a field is: key = value, key = ?value"),
+    (r#"record!(r, n = 1);"#, "expected `&Span`, found `&Registry`"),
+    (
+        r#"try_record!(s, s = S);"#,
         "the trait `std::fmt::Display` is not implemented for `S`",
     ),
 ];
