@@ -20,12 +20,12 @@ impl<T> BySlot<T> {
         reserve(&mut self.0, missing)
     }
 
-    /// Keeps this of a span, in place of what its slot has. It takes no memory where there is room.
-    pub(crate) fn put(&mut self, id: RawId, kept: T) {
+    /// Keeps this of a span, in place of what its slot has, which it answers. It takes no memory where there is room.
+    pub(crate) fn put(&mut self, id: RawId, kept: T) -> Option<T> {
         if id.slot() >= self.0.len() {
             self.0.resize_with(id.slot() + 1, || None);
         }
-        self.0[id.slot()] = Some((id, kept));
+        self.0[id.slot()].replace((id, kept)).map(|(_, earlier)| earlier)
     }
 
     /// What is kept of a span.
@@ -68,8 +68,7 @@ mod tests {
         let mut spans = BySlot::default();
         assert_eq!(spans.take(first), None);
         assert_eq!((spans.get(first), spans.first_from(0)), (None, None));
-        spans.put(other, 'b');
-        spans.put(first, 'a');
+        assert_eq!((spans.put(other, 'b'), spans.put(first, 'a')), (None, None));
         assert_eq!((spans.get(first), spans.get(other)), (Some(&'a'), Some(&'b')));
         // Of another slot, and of another span of the same one.
         for missing in [id(2), next] {
@@ -77,7 +76,7 @@ mod tests {
             assert_eq!(spans.get_mut(missing), None);
             assert_eq!(spans.take(missing), None);
         }
-        spans.put(next, 'c');
+        assert_eq!(spans.put(next, 'c'), Some('a'));
         spans.get_mut(other).into_iter().for_each(|kept| *kept = 'd');
         assert_eq!(
             (spans.get(first), spans.get(next), spans.get(other)),

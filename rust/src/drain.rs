@@ -252,9 +252,9 @@ fn least(heads: &[Head]) -> Option<(u64, usize)> {
 fn told(part: &Part, forms: &[Form], head: &mut Head) {
     if let Some(notes) = part.ring().notes() {
         let mut book = book_at(part, notes, head.batch);
-        book.keep_first();
+        book.reads(head.batch);
         if head.is_note {
-            head.told.complete(&book, part.common().interest());
+            head.told.complete(&mut book, part.common().interest());
         }
     }
     if part.place() > 0 && !head.is_note {

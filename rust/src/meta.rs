@@ -3,8 +3,6 @@
 use crate::error::Error;
 use crate::kind::Kind;
 use crate::level::Level;
-use crate::packed::reserve;
-use crate::refusal::Refusal;
 use crate::routing::{self, Ids, SLOT_BITS};
 use crate::span::Span;
 use std::fmt;
@@ -172,15 +170,6 @@ impl Given<'_> {
         fields: &[],
         kinds: &[],
     };
-
-    /// The kind of each.
-    pub(crate) fn all_kinds(&self) -> Result<Vec<Kind>, Refusal> {
-        let mut kinds = Vec::new();
-        reserve(&mut kinds, self.fields.len())?;
-        kinds.extend_from_slice(self.kinds);
-        kinds.resize(self.fields.len(), Kind::Text);
-        Ok(kinds)
-    }
 }
 
 /// The parent of a new span or an event.

@@ -1,67 +1,19 @@
 //! What lines lack of which a tree can be built: kept beside the ring, a call at a time, until its lines are read.
 #![forbid(unsafe_code)]
 use crate::by_slot::BySlot;
-use crate::kind::Kind;
+use crate::kinds::Kinds;
 use crate::level::Level;
-use crate::meta::{Given, Meta, RawId};
-use crate::names::read;
-use crate::packed::copied;
+use crate::meta::{Meta, RawId};
+use crate::noted::{Blocks, Kept, Known, Named, Of, What};
+use crate::packed::reserve;
 use crate::refusal::Refusal;
 use std::collections::VecDeque;
+use std::mem;
 use std::sync::{Mutex, MutexGuard, PoisonError};
 use std::time::Instant;
 
-/// What is known of a span or an event.
-#[derive(Clone, Debug)]
-pub(crate) struct Known {
-    pub(crate) level: Level,
-    pub(crate) target: String,
-    pub(crate) name: String,
-    /// Of its fields, in order.
-    pub(crate) kinds: Vec<Kind>,
-}
-
-/// What is known of what has this meta.
-pub(crate) fn known(meta: &Meta<'_>, given: &Given<'_>) -> Result<Known, Refusal> {
-    Ok(Known {
-        level: meta.level,
-        target: copied(meta.target)?,
-        name: copied(meta.name)?,
-        kinds: given.all_kinds()?,
-    })
-}
-
-/// The same, where the name is as lines write it.
-pub(crate) fn known_as_written(meta: &Meta<'_>, given: &Given<'_>) -> Result<Known, Refusal> {
-    let name = &read(meta.name);
-    known(&Meta { name, ..*meta }, given)
-}
-
-/// What a call did.
-#[derive(Debug)]
-pub(crate) enum What {
-    /// A new span, under this one.
-    Span {
-        id: RawId,
-        parent: Option<RawId>,
-        known: Known,
-    },
-    /// An event that was told, or a span before it has its id.
-    Made(Known),
-    /// Fields of these kinds were recorded.
-    Record(RawId, Vec<Kind>),
-    Other,
-}
-
-impl What {
-    /// The span that is made has this id.
-    pub(crate) fn of_span(self, id: RawId, parent: Option<RawId>) -> What {
-        match self {
-            What::Made(known) => What::Span { id, parent, known },
-            other => other,
-        }
-    }
-}
+/// Of a callsite that isn't known.
+const NOTHING: &Meta<'_> = &Meta::event(Level::Trace, "");
 
 /// An accepted call, which put one batch into the ring.
 #[derive(Debug)]
@@ -70,13 +22,24 @@ struct Call {
     number: u64,
     // Nanoseconds since the registry was built.
     at: u64,
-    what: What,
+    kept: Kept,
 }
 
 /// A span that was told of.
-pub(crate) struct Told {
+struct Told {
+    parent: Option<RawId>,
+    known: Known,
+}
+
+/// What is known of a span or an event.
+#[derive(Clone, Copy, Debug)]
+pub(crate) struct Noted<'a> {
+    /// A span's.
     pub(crate) parent: Option<RawId>,
-    pub(crate) known: Known,
+    /// Its name is as it was given.
+    pub(crate) meta: Meta<'a>,
+    /// Of its fields, in order.
+    pub(crate) kinds: &'a Kinds,
 }
 
 /// The calls whose lines weren't read. Who has the lock of the registry, or of the ring, may take this one, and never
@@ -88,8 +51,14 @@ pub(crate) struct Notes {
 
 #[derive(Default)]
 pub(crate) struct Book {
+    // By their numbers: what is made at one has no texts of its own.
+    callsites: Vec<Named>,
     calls: VecDeque<Call>,
     spans: BySlot<Told>,
+    // The call of which a line was read last, and the spans whose close its lines told.
+    read: u64,
+    closed: Vec<RawId>,
+    blocks: Blocks,
 }
 
 impl Notes {
@@ -106,21 +75,44 @@ impl Notes {
         self.book.lock().unwrap_or_else(PoisonError::into_inner)
     }
 
-    /// Room for one more call.
-    pub(crate) fn reserve(&self) -> Result<(), Refusal> {
-        self.book().calls.try_reserve(1).map_err(|_| Refusal::OUT_OF_MEMORY)
+    /// What a callsite with this meta, whose name is as lines write it, is known by, and room for it.
+    pub(crate) fn callsite(&self, meta: &Meta<'_>) -> Result<Named, Refusal> {
+        reserve(&mut self.book().callsites, 1)?;
+        Named::of(meta, String::new())
+    }
+
+    /// The callsite was added that room was made for last. They are numbered in ascending order.
+    pub(crate) fn add_callsite(&self, named: Named) {
+        self.book().callsites.push(named);
+    }
+
+    /// What is to be kept of a call that does this, and room for it.
+    pub(crate) fn kept(&self, what: What<'_>) -> Result<Kept, Refusal> {
+        let mut book = self.book();
+        book.calls.try_reserve(1).map_err(|_| Refusal::OUT_OF_MEMORY)?;
+        Kept::of(what, &mut book.blocks)
     }
 
     /// The call of this number did this.
-    pub(crate) fn add(&self, number: u64, what: What) {
+    pub(crate) fn add(&self, number: u64, kept: Kept) {
         // It takes centuries to overflow.
         let at = self.begin.elapsed().as_nanos() as u64;
-        self.book().calls.push_back(Call { number, at, what });
+        self.book().calls.push_back(Call { number, at, kept });
+    }
+
+    /// The call wasn't done, or put nothing into the ring.
+    pub(crate) fn give_back(&self, kept: Kept) {
+        self.book().give_back(kept);
     }
 
     /// Nobody reads any longer.
     pub(crate) fn clear(&self) {
-        *self.book() = Book::default();
+        let mut book = self.book();
+        let callsites = mem::take(&mut book.callsites);
+        *book = Book {
+            callsites,
+            ..Book::default()
+        };
     }
 }
 
@@ -129,55 +121,208 @@ impl Book {
     pub(crate) fn goes_to(&mut self, number: u64) -> bool {
         while self.calls.front().is_some_and(|call| call.number < number) {
             if let Some(call) = self.calls.pop_front() {
-                self.keep(call.what);
+                self.keep(call.kept);
             }
         }
         self.calls.front().is_some_and(|call| call.number == number)
     }
 
-    /// When the call was made that comes first now, and the event that it told.
-    pub(crate) fn first(&self) -> (u64, Option<&Known>) {
-        match self.calls.front() {
-            Some(Call {
-                at,
-                what: What::Made(known),
-                ..
-            }) => (*at, Some(known)),
-            call => (call.map_or(0, |call| call.at), None),
+    /// When the call was made that comes first now.
+    pub(crate) fn at(&self) -> u64 {
+        self.calls.front().map_or(0, |call| call.at)
+    }
+
+    /// The event that it told.
+    pub(crate) fn event(&self) -> Option<Noted<'_>> {
+        let known = self.calls.front()?.kept.known()?;
+        Some(self.noted(None, known))
+    }
+
+    /// The kinds of the fields that it recorded.
+    pub(crate) fn recorded(&self) -> Option<&Kinds> {
+        match &self.calls.front()?.kept {
+            Kept::Record(_, kinds) => Some(kinds),
+            _ => None,
         }
     }
 
-    /// The kinds of the fields that the first call recorded.
-    pub(crate) fn recorded(&self) -> &[Kind] {
-        match self.calls.front().map(|call| &call.what) {
-            Some(What::Record(_, kinds)) => kinds,
-            _ => &[],
+    /// A line of the call of this number, which comes first now, is read. The span that it made is known from here on,
+    /// and those whose close was told by the lines before are not.
+    pub(crate) fn reads(&mut self, number: u64) {
+        if number > self.read {
+            self.read = number;
+            self.let_closed_go();
+        }
+        self.keep_first();
+    }
+
+    fn keep_first(&mut self) {
+        let first = self.calls.front_mut().map(|call| &mut call.kept);
+        if let Some(kept @ Kept::Span { .. }) = first {
+            let kept = mem::replace(kept, Kept::Other);
+            self.keep(kept);
         }
     }
 
-    /// The span that the first call made is known from here on.
-    pub(crate) fn keep_first(&mut self) {
-        let first = self.calls.front_mut().map(|call| &mut call.what);
-        if let Some(what @ What::Span { .. }) = first {
-            let what = std::mem::replace(what, What::Other);
-            self.keep(what);
+    /// The line that is read tells that this span closed: once all of its call are, nothing tells of it any more.
+    pub(crate) fn is_closed(&mut self, id: RawId) {
+        // Without room, it is kept until its slot has another one.
+        if reserve(&mut self.closed, 1).is_ok() {
+            self.closed.push(id);
         }
     }
 
-    fn keep(&mut self, what: What) {
-        match what {
-            What::Span { id, parent, known } => self.spans.put(id, Told { parent, known }),
-            What::Record(id, kinds) => {
+    /// A span that was told of, until its close was told too, or its slot has another one.
+    pub(crate) fn span(&self, id: RawId) -> Option<Noted<'_>> {
+        let told = self.spans.get(id)?;
+        Some(self.noted(told.parent, &told.known))
+    }
+
+    fn noted<'a>(&'a self, parent: Option<RawId>, known: &'a Known) -> Noted<'a> {
+        let meta = match &known.of {
+            Of::Callsite(number) => self.callsites.get(*number as usize).map_or(*NOTHING, Named::meta),
+            Of::Own(named) => named.meta(),
+        };
+        let kinds = &known.kinds;
+        Noted { parent, meta, kinds }
+    }
+
+    fn keep(&mut self, kept: Kept) {
+        match kept {
+            Kept::Span { id, parent, known } => {
+                let earlier = self.spans.put(id, Told { parent, known });
+                self.let_go(earlier);
+            }
+            Kept::Record(id, kinds) => {
                 if let Some(told) = self.spans.get_mut(id) {
-                    told.known.kinds.extend(kinds);
+                    told.known.kinds.append(&kinds);
                 }
             }
-            What::Made(_) | What::Other => {}
+            other => self.give_back(other),
         }
     }
 
-    /// A span that was told of, until its slot's next one.
-    pub(crate) fn span(&self, id: RawId) -> Option<&Told> {
-        self.spans.get(id)
+    fn give_back(&mut self, kept: Kept) {
+        if let Kept::Made(known) | Kept::Span { known, .. } = kept {
+            self.blocks.give_back(known);
+        }
+    }
+
+    fn let_closed_go(&mut self) {
+        while let Some(id) = self.closed.pop() {
+            let told = self.spans.take(id);
+            self.let_go(told);
+        }
+    }
+
+    fn let_go(&mut self, told: Option<Told>) {
+        if let Some(told) = told {
+            self.blocks.give_back(told.known);
+        }
+    }
+}
+
+#[cfg(test)]
+mod tests {
+    use super::Notes;
+    use crate::kind::Kind;
+    use crate::level::Level;
+    use crate::meta::{Given, Meta, RawId};
+    use crate::noted::{Source, What};
+    use crate::refusal::Refusal;
+    use std::time::Instant;
+
+    fn id(number: u64) -> RawId {
+        RawId::from_u64(number).expect("not 0")
+    }
+
+    // As the registry makes them: what is noted is made before the call, and added once that is done.
+    fn call(notes: &Notes, number: u64, what: What<'_>, made: Option<(u64, Option<u64>)>) -> Result<(), Refusal> {
+        let mut kept = notes.kept(what)?;
+        if let Some((span, parent)) = made {
+            kept = kept.of_span(id(span), parent.map(id));
+        }
+        notes.add(number, kept);
+        Ok(())
+    }
+
+    #[test]
+    fn what_is_made_at_a_callsite_has_its_texts() -> Result<(), Refusal> {
+        let notes = Notes::new(Instant::now());
+        for meta in [Meta::event(Level::Info, "app"), Meta::new(Level::Warn, "db", "--a-20b")] {
+            notes.add_callsite(notes.callsite(&meta)?);
+        }
+        for (number, callsite) in [(1, 1), (2, 0), (3, 2)] {
+            call(
+                &notes,
+                number,
+                What::Made(Source::Callsite(callsite), &Given::NONE),
+                None,
+            )?;
+        }
+        let known = [
+            Meta::new(Level::Warn, "db", "a b"),
+            Meta::event(Level::Info, "app"),
+            Meta::event(Level::Trace, ""),
+        ];
+        for (number, meta) in (1..).zip(known) {
+            let mut book = notes.book();
+            assert!(book.goes_to(number));
+            assert_eq!(book.event().map(|noted| noted.meta), Some(meta));
+        }
+        // Where nobody reads, callsites stay known: others may follow them.
+        notes.clear();
+        let book = notes.book();
+        assert_eq!((book.callsites.len(), book.calls.len()), (2, 0));
+        Ok(())
+    }
+
+    #[test]
+    fn a_span_is_known_until_the_lines_of_its_close_are_read() -> Result<(), Refusal> {
+        let notes = Notes::new(Instant::now());
+        let meta = Meta::new(Level::Info, "app", "a");
+        let given = Given {
+            fields: &[("k", "1"), ("l", "2")],
+            kinds: &[Kind::Integer, Kind::Text],
+        };
+        call(&notes, 1, What::Made(Source::Meta(&meta), &given), Some((5, None)))?;
+        call(&notes, 2, What::Record(id(5), &given), None)?;
+        call(&notes, 3, What::Other, None)?;
+        call(&notes, 4, What::Other, None)?;
+        let mut book = notes.book();
+        assert!(book.goes_to(1) && book.span(id(5)).is_none());
+        book.reads(1);
+        assert_eq!(book.span(id(5)).map(|noted| noted.meta), Some(meta));
+        assert!(book.goes_to(2) && book.recorded().is_some() && book.event().is_none());
+        // Of two layers. Who calls may have thrown the next call's lines away in between.
+        for first in [3, 4] {
+            assert!(book.goes_to(first));
+            book.reads(3);
+            let kinds = book
+                .span(id(5))
+                .map(|noted| noted.kinds.iter().take(5).collect::<Vec<_>>());
+            let wanted = [Kind::Integer, Kind::Text, Kind::Integer, Kind::Text, Kind::Text];
+            assert_eq!(kinds.as_deref(), Some(&wanted[..]));
+            book.is_closed(id(5));
+        }
+        book.reads(4);
+        assert!(book.span(id(5)).is_none() && !book.goes_to(5));
+        Ok(())
+    }
+
+    #[test]
+    fn a_refused_call_gives_its_block_back() -> Result<(), Refusal> {
+        let notes = Notes::new(Instant::now());
+        let meta = Meta::new(Level::Info, "app", "a");
+        let address = || -> Result<*const u8, Refusal> {
+            let kept = notes.kept(What::Made(Source::Meta(&meta), &Given::NONE))?;
+            let address = kept
+                .known()
+                .map(|known| notes.book().noted(None, known).meta.name.as_ptr());
+            notes.give_back(kept);
+            Ok(address.expect("an event"))
+        };
+        assert_eq!(address()?, address()?);
+        Ok(())
     }
 }

@@ -1,10 +1,8 @@
 //! Where spans were made, which the proved registry doesn't know; and what lists of open spans tell of one, with what
 //! that does.
 #![forbid(unsafe_code)]
-use crate::level::Level;
-use crate::meta::{Given, Meta, RawId};
+use crate::meta::RawId;
 use crate::names::{is_marked, read};
-use crate::notes::{known, known_as_written, Known};
 use crate::packed::{copied, reserve, Names, Packed};
 use crate::raw::SpanField;
 use crate::refusal::Refusal;
@@ -17,13 +15,6 @@ pub(crate) type Place = Option<(&'static str, u32)>;
 /// How many bytes of a span's texts are told at most.
 const TOLD: usize = 4096;
 
-/// A callsite.
-struct Source {
-    place: Place,
-    // Where calls are noted.
-    known: Option<Known>,
-}
-
 /// What is known of an open span.
 pub(crate) struct Details {
     pub(crate) name: String,
@@ -33,11 +24,10 @@ pub(crate) struct Details {
     pub(crate) is_cut: bool,
 }
 
+#[derive(Default)]
 pub(crate) struct Origins {
-    // Whether calls are noted: before they are made, so the proved registry can't be asked for what they make.
-    is_noted: bool,
     // By the callsites' numbers.
-    sources: Vec<Source>,
+    places: Vec<Place>,
     // The numbers of the places of macros, by their addresses.
     sites: HashMap<usize, u32>,
     // By slot, up to the greatest that was ever used: the callsite of its last span, where that was made at one.
@@ -45,38 +35,17 @@ pub(crate) struct Origins {
 }
 
 impl Origins {
-    /// Of a registry whose calls are noted or not.
-    pub(crate) fn new(is_noted: bool) -> Origins {
-        Origins {
-            is_noted,
-            sources: Vec::new(),
-            sites: HashMap::new(),
-            callsites: Vec::new(),
-        }
-    }
-
-    /// Room for one more callsite, and its texts.
-    fn source(&mut self, meta: &Meta<'_>, place: Place) -> Result<Source, Refusal> {
-        reserve(&mut self.sources, 1)?;
-        self.sites.try_reserve(1).map_err(|_| Refusal::OUT_OF_MEMORY)?;
-        let known = self.is_noted.then(|| known_as_written(meta, &Given::NONE));
-        Ok(Source {
-            place,
-            known: known.transpose()?,
-        })
-    }
-
     /// Adds a callsite whose number is that of `add`, which is called once there is room.
     pub(crate) fn add(
         &mut self,
-        meta: &Meta<'_>,
         site: Option<&'static Site>,
         add: impl FnOnce() -> Result<u32, Refusal>,
     ) -> Result<u32, Refusal> {
-        let source = self.source(meta, site.map(Site::place))?;
+        reserve(&mut self.places, 1)?;
+        self.sites.try_reserve(1).map_err(|_| Refusal::OUT_OF_MEMORY)?;
         let number = add()?;
         // Callsites are numbered in ascending order.
-        self.sources.push(source);
+        self.places.push(site.map(Site::place));
         if let Some(site) = site {
             self.sites.insert(address(site), number);
         }
@@ -86,14 +55,6 @@ impl Origins {
     /// The number of a place that was added.
     pub(crate) fn number(&self, site: &'static Site) -> Option<u32> {
         self.sites.get(&address(site)).copied()
-    }
-
-    /// What is known of what is made at a callsite, where calls are noted.
-    pub(crate) fn known(&self, callsite: u32, given: &Given<'_>) -> Result<Known, Refusal> {
-        let source = self.sources.get(callsite as usize);
-        let kept = source.and_then(|source| source.known.as_ref());
-        let meta = kept.map(|kept| Meta::new(kept.level, &kept.target, &kept.name));
-        known(&meta.unwrap_or(Meta::event(Level::Trace, "")), given)
     }
 
     /// Room for one more span.
@@ -115,7 +76,7 @@ impl Origins {
     /// What is known of an open span, of which the proved registry says these texts.
     pub(crate) fn details(&self, id: RawId, names: Names, said: &Packed) -> Result<Details, Refusal> {
         let callsite = self.callsites.get(id.slot()).copied().flatten();
-        let source = callsite.and_then(|number| self.sources.get(number as usize));
+        let place = callsite.and_then(|number| self.places.get(number as usize));
         // The names of a callsite count for nothing.
         let before = if callsite.is_none() { names.bytes() } else { 0 };
         let (told, is_cut) = fitting(before, said.fields());
@@ -131,7 +92,7 @@ impl Origins {
         Ok(Details {
             name,
             target: if before > TOLD { String::new() } else { target },
-            place: source.and_then(|source| source.place),
+            place: place.copied().flatten(),
             fields,
             is_cut,
         })
@@ -175,7 +136,7 @@ fn unmarked(written: String) -> String {
 mod tests {
     use super::{Details, Names, Origins, TOLD};
     use crate::level::Level;
-    use crate::meta::{Fields, Given, Meta, RawId};
+    use crate::meta::{Fields, RawId};
     use crate::packed::Packed;
     use crate::refusal::Refusal;
     use crate::site::Site;
@@ -194,11 +155,10 @@ mod tests {
     #[test]
     fn the_last_span_of_a_slot_has_its_place() -> Result<(), Refusal> {
         static SITE: Site = Site::span(Level::Info, "app", "a", "main.rs", 7);
-        let mut origins = Origins::new(false);
-        let meta = Meta::new(Level::Info, "app", "a");
-        assert_eq!(origins.add(&meta, None, || Ok(0)), Ok(0));
-        assert_eq!(origins.add(&meta, Some(&SITE), || Ok(1)), Ok(1));
-        let refused = origins.add(&meta, None, || Err(Refusal::OUT_OF_MEMORY));
+        let mut origins = Origins::default();
+        assert_eq!(origins.add(None, || Ok(0)), Ok(0));
+        assert_eq!(origins.add(Some(&SITE), || Ok(1)), Ok(1));
+        let refused = origins.add(None, || Err(Refusal::OUT_OF_MEMORY));
         assert_eq!(refused, Err(Refusal::OUT_OF_MEMORY));
         assert_eq!(origins.number(&SITE), Some(1));
         for (number, callsite) in [(1, Some(1)), (2, None), (3, Some(0)), ((1 << 24) + 2, Some(1))] {
@@ -218,7 +178,7 @@ mod tests {
 
     #[test]
     fn long_texts_are_cut() -> Result<(), Refusal> {
-        let mut origins = Origins::new(false);
+        let mut origins = Origins::default();
         origins.made(id(1), None);
         origins.made(id(2), Some(0));
         let long = "x".repeat(TOLD / 2);
@@ -249,22 +209,6 @@ mod tests {
             told.each_ref().map(|told| (told.target == long, told.is_cut)),
             [(false, true), (true, false)]
         );
-        Ok(())
-    }
-
-    #[test]
-    fn where_calls_are_noted_callsites_are_known() -> Result<(), Refusal> {
-        for is_noted in [false, true] {
-            let mut origins = Origins::new(is_noted);
-            origins.add(&Meta::new(Level::Warn, "app", "--a-20b"), None, || Ok(0))?;
-            let known = origins.known(0, &Given::NONE)?;
-            let wanted = if is_noted {
-                (Level::Warn, "app", "a b")
-            } else {
-                (Level::Trace, "", "event")
-            };
-            assert_eq!((known.level, &*known.target, &*known.name), wanted);
-        }
         Ok(())
     }
 }

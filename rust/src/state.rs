@@ -7,7 +7,7 @@ use crate::carried::Carried;
 use crate::level::Level;
 use crate::lost::{Lost, TARGET};
 use crate::meta::{Counts, Fields, Given, Meta, RawId, RawParent};
-use crate::notes::{known_as_written, What};
+use crate::noted::{Kept, Source, What};
 use crate::origins::Origins;
 use crate::owed::{Debt, Owed, Owing};
 use crate::packed::{packed, Packed, Texts};
@@ -19,10 +19,10 @@ use crate::site::Site;
 use crate::stamps::{Answer, Sent};
 use std::sync::Arc;
 
-/// Says what is to be noted of a call, which may be made again: so what is captured is copied. What seldom runs is lent
-/// a copy that is made there: were it lent this itself, all of it would stand in memory before each call.
-trait Noting: Fn(&Origins) -> Result<What, Refusal> + Copy {}
-impl<F: Fn(&Origins) -> Result<What, Refusal> + Copy> Noting for F {}
+/// Says what a call does, which may be made again: so what is captured is copied. What seldom runs is lent a copy that
+/// is made there: were it lent this itself, all of it would stand in memory before each call.
+trait Saying<'a>: Fn() -> What<'a> + Copy {}
+impl<'a, F: Fn() -> What<'a> + Copy> Saying<'a> for F {}
 
 /// A call of the core.
 trait Sending<T>: Fn(&mut Core) -> Result<T, Refusal> + Copy {}
@@ -54,7 +54,7 @@ impl State {
         Ok(State {
             core,
             first_worker,
-            origins: Origins::new(ring.notes().is_some()),
+            origins: Origins::default(),
             has_more: ring.notes().is_some() || ring.stamps().is_some(),
             ring,
             said: Packed::default(),
@@ -164,10 +164,9 @@ impl State {
         self.seats.of(caller)
     }
 
-    // A call that takes a place of the ring: where lines may be thrown away for one, they are. `what` says what is to
-    // be noted of it.
+    // A call that takes a place of the ring: where lines may be thrown away for one, they are. `what` says what it does.
     #[inline(always)]
-    fn placed<T: Answer>(&mut self, what: impl Noting, call: impl Sending<T>) -> Result<T, Refusal> {
+    fn placed<'a, T: Answer>(&mut self, what: impl Saying<'a>, call: impl Sending<T>) -> Result<T, Refusal> {
         match self.sent(what, call) {
             Ok(answer) => Ok(answer),
             Err(refusal) => {
@@ -180,10 +179,10 @@ impl State {
     // It was refused for this. It is made again where lines were thrown away.
     #[cold]
     #[inline(never)]
-    fn placed_later<T: Answer>(
+    fn placed_later<'a, T: Answer>(
         &mut self,
         refusal: Refusal,
-        &(what, call): &(impl Noting, impl Sending<T>),
+        &(what, call): &(impl Saying<'a>, impl Sending<T>),
     ) -> Result<T, Refusal> {
         let mut result = Err(refusal);
         while matches!(result, Err(Refusal::BACKLOG)) && self.ring.makes_place() {
@@ -194,7 +193,7 @@ impl State {
 
     // A call that may put a batch into the ring.
     #[inline(always)]
-    fn sent<T: Answer>(&mut self, what: impl Noting, call: impl Sending<T>) -> Result<T, Refusal> {
+    fn sent<'a, T: Answer>(&mut self, what: impl Saying<'a>, call: impl Sending<T>) -> Result<T, Refusal> {
         if self.has_more {
             let these = (what, call);
             Ok(self.sent_with_more(&these)?)
@@ -205,14 +204,11 @@ impl State {
 
     // The same, with a note and a stamp of the batch, where these are kept.
     #[cold]
-    fn sent_with_more<T: Answer>(&mut self, &(what, call): &(impl Noting, impl Sending<T>)) -> Result<T, Refusal> {
-        let what = match self.ring.notes() {
-            Some(notes) => {
-                notes.reserve()?;
-                Some(what(&self.origins)?)
-            }
-            None => None,
-        };
+    fn sent_with_more<'a, T: Answer>(
+        &mut self,
+        &(what, call): &(impl Saying<'a>, impl Sending<T>),
+    ) -> Result<T, Refusal> {
+        let kept = self.ring.notes().map(|notes| notes.kept(what())).transpose()?;
         if let Some(stamps) = self.ring.stamps() {
             stamps.begin();
         }
@@ -221,25 +217,27 @@ impl State {
         if let Some(stamps) = self.ring.stamps() {
             stamps.end(sent != Sent::Nothing);
         }
-        if let Some(what) = what {
-            self.note(what, sent);
+        if let Some(kept) = kept {
+            self.note(kept, sent);
         }
         answer
     }
 
     // There is room for it.
-    fn note(&mut self, what: What, sent: Sent) {
-        let what = match sent {
-            Sent::Nothing => return,
-            Sent::Batch => what,
-            Sent::Span(id) => {
+    fn note(&mut self, kept: Kept, sent: Sent) {
+        let is_told = sent != Sent::Nothing && !self.ring.is_unread();
+        let kept = match sent {
+            Sent::Span(id) if is_told => {
                 let parent = self.core.find(id).and_then(|found| RawId::from_u64(found.parent));
-                what.of_span(id, parent)
+                kept.of_span(id, parent)
             }
+            _ => kept,
         };
-        let number = self.calls();
-        if let Some(notes) = self.ring.notes().filter(|_| !self.ring.is_unread()) {
-            notes.add(number, what);
+        let number = if is_told { self.calls() } else { 0 };
+        match self.ring.notes() {
+            Some(notes) if is_told => notes.add(number, kept),
+            Some(notes) => notes.give_back(kept),
+            None => {}
         }
     }
 
@@ -255,7 +253,7 @@ impl State {
         self.owing.reserve_span()?;
         self.origins.reserve_span()?;
         let id = self.placed(
-            move |_| Ok(What::Made(known_as_written(meta, given)?)),
+            move || What::Made(Source::Meta(meta), given),
             move |core| core.new_span(worker, parent, meta, texts),
         )?;
         if let Some(id) = id {
@@ -266,10 +264,18 @@ impl State {
 
     /// Its number.
     pub(crate) fn add_callsite(&mut self, meta: &Meta<'_>, site: Option<&'static Site>) -> Result<u32, Refusal> {
-        let State { core, origins, .. } = self;
-        packed(&[meta.name, meta.target], &[], |texts| {
-            origins.add(meta, site, || core.add_callsite(meta, texts))
-        })
+        let State {
+            core, origins, ring, ..
+        } = self;
+        let notes = ring.notes();
+        let named = notes.map(|notes| notes.callsite(meta)).transpose()?;
+        let number = packed(&[meta.name, meta.target], &[], |texts| {
+            origins.add(site, || core.add_callsite(meta, texts))
+        })?;
+        if let (Some(notes), Some(named)) = (notes, named) {
+            notes.add_callsite(named);
+        }
+        Ok(number)
     }
 
     /// The number of the callsite of a place in the program, if it was added.
@@ -289,7 +295,7 @@ impl State {
         self.owing.reserve_span()?;
         self.origins.reserve_span()?;
         let id = self.placed(
-            move |origins| Ok(What::Made(origins.known(callsite, given)?)),
+            move || What::Made(Source::Callsite(callsite), given),
             move |core| core.new_span_at(worker, parent, callsite, texts),
         )?;
         if let Some(id) = id {
@@ -306,7 +312,7 @@ impl State {
 
     pub(crate) fn clone_span(&mut self, worker: u32, id: RawId) -> Result<(), Refusal> {
         self.owing.reserve_handle()?;
-        self.placed(|_| Ok(What::Other), move |core| core.clone_span(worker, id))?;
+        self.placed(|| What::Other, move |core| core.clone_span(worker, id))?;
         self.owing.cloned();
         Ok(())
     }
@@ -314,7 +320,7 @@ impl State {
     #[inline(always)]
     pub(crate) fn enter(&mut self, worker: u32, id: RawId) -> Result<bool, Refusal> {
         self.owing.reserve_entry(worker)?;
-        let first = self.placed(|_| Ok(What::Other), move |core| core.enter(worker, id))?;
+        let first = self.placed(|| What::Other, move |core| core.enter(worker, id))?;
         self.seats.entered(worker);
         self.owing.entered(worker, id);
         Ok(first)
@@ -330,7 +336,7 @@ impl State {
     #[inline(always)]
     fn give_back_entry(&mut self, worker: u32, id: RawId) -> Result<bool, Refusal> {
         let closed = if self.carried.is_nothing() {
-            self.placed(|_| Ok(What::Other), move |core| core.exit(worker, id))?
+            self.placed(|| What::Other, move |core| core.exit(worker, id))?
         } else {
             self.closing(Core::exit_closing, worker, id)?
         };
@@ -342,7 +348,7 @@ impl State {
     #[inline(always)]
     pub(crate) fn try_close(&mut self, worker: u32, id: RawId) -> Result<bool, Refusal> {
         let closed = if self.carried.is_nothing() {
-            self.placed(|_| Ok(What::Other), move |core| core.try_close(worker, id))?
+            self.placed(|| What::Other, move |core| core.try_close(worker, id))?
         } else {
             self.closing(Core::try_close_closing, worker, id)?
         };
@@ -358,7 +364,7 @@ impl State {
         texts: Texts<'_>,
     ) -> Result<(), Refusal> {
         self.placed(
-            move |_| Ok(What::Record(id, given.all_kinds()?)),
+            move || What::Record(id, given),
             move |core| core.record(worker, id, texts),
         )
     }
@@ -373,7 +379,7 @@ impl State {
         texts: Texts<'_>,
     ) -> Result<(), Refusal> {
         self.placed(
-            move |_| Ok(What::Made(known_as_written(meta, given)?)),
+            move || What::Made(Source::Meta(meta), given),
             move |core| core.event(worker, parent, meta, message, texts),
         )
     }
@@ -388,7 +394,7 @@ impl State {
         texts: Texts<'_>,
     ) -> Result<(), Refusal> {
         self.placed(
-            move |origins| Ok(What::Made(origins.known(callsite, given)?)),
+            move || What::Made(Source::Callsite(callsite), given),
             move |core| core.event_at(worker, parent, callsite, message, texts),
         )
     }
@@ -397,9 +403,10 @@ impl State {
     fn tell_of_itself(&mut self, message: &str, fields: Fields<'_>) -> Result<(), Refusal> {
         let meta = Meta::event(Level::Warn, TARGET);
         let outsider = self.seats.outsider();
+        let given = Given::from(fields);
         packed(&[meta.name, meta.target, message], fields, |texts| {
             self.sent(
-                |_| Ok(What::Made(known_as_written(&meta, &fields.into())?)),
+                || What::Made(Source::Meta(&meta), &given),
                 |core| core.event(outsider, RawParent::Root, &meta, message, texts),
             )
         })

@@ -2,15 +2,15 @@
 #![forbid(unsafe_code)]
 use crate::interest::Interest;
 use crate::kind::Kind;
+use crate::kinds::Kinds;
 use crate::level::Level;
-use crate::meta::{Id, RawId};
+use crate::meta::{Id, Meta, RawId};
 use crate::names::{is_marked, read};
 use crate::note::{Note, NoteField, NoteKind, Text};
 use crate::notes::Book;
 use crate::part::Part;
 use crate::said::{text_of, Said};
 use std::borrow::Cow;
-use std::iter;
 use std::time::Duration;
 
 /// What a line has beside its texts takes so many bytes at most.
@@ -25,8 +25,8 @@ pub(crate) struct Told {
     level: Level,
     target: String,
     name: String,
-    // Of its fields; where these are more, the others are texts.
-    kinds: Vec<Kind>,
+    // Of its fields.
+    kinds: Kinds,
 }
 
 impl Told {
@@ -38,7 +38,7 @@ impl Told {
             level: Level::Trace,
             target: String::new(),
             name: String::new(),
-            kinds: Vec::new(),
+            kinds: Kinds::default(),
         }
     }
 
@@ -51,41 +51,45 @@ impl Told {
     }
 
     /// What is kept of the first call in the book, whose note it is, and of its span.
-    pub(crate) fn complete(&mut self, book: &Book, interest: &Interest) {
+    pub(crate) fn complete(&mut self, book: &mut Book, interest: &Interest) {
         let (kind, id, layer) = (self.kind(), self.id(), self.said.note().layer as usize);
-        let (at, event) = book.first();
-        let span = id.and_then(|id| book.span(id));
-        let known = match kind {
-            NoteKind::Event => event,
-            _ => span.map(|span| &span.known),
+        let noted = match kind {
+            NoteKind::Event => book.event(),
+            _ => id.and_then(|id| book.span(id)),
         };
-        self.at = at;
+        self.at = book.at();
         self.parent = match kind {
             // The one that the layer admits.
             NoteKind::Event => id,
-            _ => admitted(book, interest, layer, span.and_then(|span| span.parent)),
+            _ => admitted(book, interest, layer, noted.and_then(|noted| noted.parent)),
         };
-        self.level = known.map_or(Level::Trace, |known| known.level);
-        self.target.clear();
-        self.name.clear();
-        self.kinds.clear();
-        if let Some(known) = known {
-            self.target.push_str(&known.target);
-            self.name.push_str(&known.name);
-        }
+        self.put_meta(noted.map_or(Meta::event(Level::Trace, ""), |noted| noted.meta));
         let kinds = match kind {
             NoteKind::Record => book.recorded(),
-            _ => known.map_or(&[][..], |known| &known.kinds),
+            _ => noted.map(|noted| noted.kinds),
         };
-        self.kinds.extend_from_slice(kinds);
+        match kinds {
+            Some(kinds) => self.kinds.copy(kinds),
+            None => self.kinds.clear(),
+        }
+        if let (NoteKind::Close, Some(id)) = (kind, id) {
+            book.is_closed(id);
+        }
+    }
+
+    fn put_meta(&mut self, meta: Meta<'_>) {
+        self.level = meta.level;
+        self.target.clear();
+        self.target.push_str(meta.target);
+        self.name.clear();
+        self.name.push_str(meta.name);
     }
 
     // Keys as they were given.
     fn fields(&self) -> impl Iterator<Item = (Cow<'_, [u8]>, Kind, &[u8])> {
-        let kinds = self.kinds.iter().copied().chain(iter::repeat(Kind::Text));
         self.said
             .fields()
-            .zip(kinds)
+            .zip(self.kinds.iter())
             .map(|((key, value), kind)| (as_given(key), kind, value))
     }
 
@@ -152,7 +156,7 @@ impl Told {
 // The nearest of this one and those above it that the layer admits.
 fn admitted(book: &Book, interest: &Interest, layer: usize, mut above: Option<RawId>) -> Option<RawId> {
     while let Some(span) = above.and_then(|id| book.span(id)) {
-        if interest.layer_admits(layer, span.known.level, &span.known.target) {
+        if interest.layer_admits(layer, span.meta.level, span.meta.target) {
             return above;
         }
         above = span.parent;

@@ -3,7 +3,7 @@
 use super::State;
 use crate::carried::{Load, Value};
 use crate::meta::RawId;
-use crate::notes::What;
+use crate::noted::What;
 use crate::raw::{Closed, Core};
 use crate::refusal::Refusal;
 use std::any::TypeId;
@@ -39,7 +39,7 @@ impl State {
         worker: u32,
         id: RawId,
     ) -> Result<bool, Refusal> {
-        let closed = self.placed(|_| Ok(What::Other), move |core| call(core, worker, id))?;
+        let closed = self.placed(|| What::Other, move |core| call(core, worker, id))?;
         let State { core, carried, .. } = self;
         match closed.ids() {
             // (so what a child carried comes before what its parents did)
