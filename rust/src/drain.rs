@@ -9,6 +9,7 @@ use crate::notes::{Book, Notes};
 use crate::part::Part;
 use crate::parts::Parts;
 use crate::state::State;
+use crate::told::Spare;
 use crate::workers;
 use std::sync::MutexGuard;
 
@@ -68,6 +69,8 @@ pub struct Drain {
     at: usize,
     // Of each part the last call whose lines are to be written at an end.
     last: Vec<u64>,
+    // Of notes that were read into others.
+    spare: Spare,
 }
 
 impl Drain {
@@ -79,6 +82,7 @@ impl Drain {
             parts,
             forms,
             at: 0,
+            spare: Spare::default(),
         }
     }
 
@@ -115,7 +119,8 @@ impl Drain {
             let head = &mut self.heads[self.at];
             head.ready = None;
             if head.is_note {
-                head.told.note_into(self.parts.part(self.at as u32), note);
+                let part = self.parts.part(self.at as u32);
+                head.told.note_into(part, note, &mut self.spare);
                 return true;
             }
         }

@@ -11,10 +11,30 @@ use crate::notes::Book;
 use crate::part::Part;
 use crate::said::{text_of, Said};
 use std::borrow::Cow;
+use std::mem;
 use std::time::Duration;
 
 /// What a line has beside its texts takes so many bytes at most.
 const BESIDE: usize = 200;
+
+/// The memory of what an earlier note had and the one that was read in its place hasn't.
+#[derive(Default)]
+pub(crate) struct Spare {
+    message: String,
+    fields: Vec<NoteField>,
+}
+
+impl Spare {
+    // So many fields, of any texts.
+    fn resize(&mut self, fields: &mut Vec<NoteField>, count: usize) {
+        while fields.len() > count {
+            self.fields.extend(fields.pop());
+        }
+        while fields.len() < count {
+            fields.push(self.fields.pop().unwrap_or_else(NoteField::empty));
+        }
+    }
+}
 
 /// What the proved registry says of it, and of what was kept beside the ring a copy, since the reader isn't the only one
 /// who throws away what is kept. All in memory that is used for the next one.
@@ -93,8 +113,8 @@ impl Told {
             .map(|((key, value), kind)| (as_given(key), kind, value))
     }
 
-    /// As a struct, of a line of this part: in the memory of an earlier one.
-    pub(crate) fn note_into(&self, part: &Part, note: &mut Note) {
+    /// As a struct, of a line of this part: in the memory of an earlier one, and of those before it.
+    pub(crate) fn note_into(&self, part: &Part, note: &mut Note, spare: &mut Spare) {
         let (said, registry) = (self.said.note(), part.common().number());
         let whole = |id: Option<RawId>| id.map(|id| Id::of(registry, part.place(), id));
         note.kind = self.kind();
@@ -109,13 +129,12 @@ impl Told {
         put(self.name.as_bytes(), &mut note.name);
         put(self.said.path(), &mut note.path);
         if is_event {
-            put(self.said.message(), note.message.get_or_insert_with(String::new));
-        } else {
-            note.message = None;
+            let message = note.message.get_or_insert_with(|| mem::take(&mut spare.message));
+            put(self.said.message(), message);
+        } else if let Some(message) = note.message.take() {
+            spare.message = message;
         }
-        let count = self.said.count();
-        note.fields.truncate(count);
-        note.fields.resize_with(count, NoteField::empty);
+        spare.resize(&mut note.fields, self.said.count());
         for (field, (key, kind, value)) in note.fields.iter_mut().zip(self.fields()) {
             put(&key, &mut field.key);
             field.kind = kind;

@@ -1,26 +1,43 @@
 //! How many allocations a thread takes for a round once the memory of slots and buffers is there, this crate's own and
-//! the library's, and what the library frees while lines are read.
+//! the library's, and what is freed while lines are read.
 //!
 //! The library takes its memory by three functions of the toolchain's shim, for which this program has its own.
 mod common;
 
 use common::info;
-use span_registry::{Drain, Error, FmtSpan, Layer, Parent, Registry};
+use span_registry::{
+    event, record, span, Drain, Error, FmtSpan, Layer, Level, Note, Parent, Registry, RegistryBuilder,
+};
 use std::alloc::{GlobalAlloc, Layout, System};
 use std::cell::Cell;
 use std::ffi::c_void;
-use std::sync::mpsc;
+use std::io;
+use std::sync::{mpsc, Barrier};
 use std::thread;
 
 thread_local! {
     // It takes no memory, and is there to the thread's end.
     static TAKEN: Cell<u64> = const { Cell::new(0) };
-    // Of the library's blocks alone.
+    // Of the library's blocks alone, and of all.
     static FREED: Cell<u64> = const { Cell::new(0) };
+    static ALL_FREED: Cell<u64> = const { Cell::new(0) };
 }
 
 fn take() {
     TAKEN.set(TAKEN.get() + 1);
+}
+
+fn give_back() {
+    ALL_FREED.set(ALL_FREED.get() + 1);
+}
+
+/// How many blocks the thread took and freed so far.
+fn so_far() -> (u64, u64) {
+    (TAKEN.get(), ALL_FREED.get())
+}
+
+fn since((taken, freed): (u64, u64)) -> (u64, u64) {
+    (TAKEN.get() - taken, ALL_FREED.get() - freed)
 }
 
 struct Counting;
@@ -38,11 +55,13 @@ unsafe impl GlobalAlloc for Counting {
 
     unsafe fn realloc(&self, at: *mut u8, layout: Layout, size: usize) -> *mut u8 {
         take();
+        give_back();
         // SAFETY: the caller's.
         unsafe { System.realloc(at, layout, size) }
     }
 
     unsafe fn dealloc(&self, at: *mut u8, layout: Layout) {
+        give_back();
         // SAFETY: the caller's.
         unsafe { System.dealloc(at, layout) }
     }
@@ -79,6 +98,7 @@ pub extern "C" fn rattle_alloc(size: usize, align: usize) -> Block {
 /// The block came from these functions and wasn't given back.
 #[no_mangle]
 pub unsafe extern "C" fn rattle_realloc(at: *mut c_void, _old: usize, size: usize, align: usize) -> Block {
+    give_back();
     // SAFETY: the caller's.
     block(unsafe { realloc(at, size.max(align)) })
 }
@@ -88,6 +108,7 @@ pub unsafe extern "C" fn rattle_realloc(at: *mut c_void, _old: usize, size: usiz
 #[no_mangle]
 pub unsafe extern "C" fn rattle_dealloc(at: *mut c_void) {
     FREED.set(FREED.get() + 1);
+    give_back();
     // SAFETY: the caller's.
     unsafe { free(at) }
 }
@@ -185,5 +206,92 @@ fn what_calls_took_is_not_freed_by_the_reader() -> Result<(), Error> {
     }
     let (freed, _drain) = reader.join().expect("a reader");
     assert_eq!(freed, 0);
+    Ok(())
+}
+
+/// Spans, events and records with fields, by macros.
+fn by_macros(registry: &Registry, number: u64) -> Result<(), Error> {
+    let outer = span!(registry, Level::Info, "request", number, user = "Ada", ratio = 0.5);
+    let inner =
+        span!(registry, target: "app::db", parent: &outer, Level::Debug, "GET /users", is_cached = number % 2 == 0);
+    let _inside = inner.enter();
+    event!(registry, Level::Info, number, "read {number} rows");
+    record!(inner, status = 200, text = "t");
+    record!(outer, number);
+    Ok(())
+}
+
+/// The same by methods: of what has a target and a name of its own, and at callsites.
+fn by_methods(registry: &Registry, _number: u64) -> Result<(), Error> {
+    const FIELDS: &[(&str, &str)] = &[("k", "value"), ("l", "another value")];
+    let outer = registry.span(&info("outer"), Parent::Root, FIELDS)?;
+    let inner = registry.span(&info("inner"), Parent::from(&outer), FIELDS)?;
+    let _inside = inner.try_enter()?;
+    registry.event(&info("event"), "told", FIELDS)?;
+    inner.try_record(FIELDS)
+}
+
+/// What the reader does with what is at hand.
+type Reading = fn(&mut Drain, &mut Note);
+
+fn read_notes(drain: &mut Drain, note: &mut Note) {
+    while drain.note_into(note) {}
+}
+
+fn write_lines(drain: &mut Drain, _note: &mut Note) {
+    drain.write_to(&mut io::sink()).expect("it is never refused");
+}
+
+/// How many blocks who calls and who reads took and freed in turns of rounds, once as many were before. In each turn the
+/// reader reads what the rounds told.
+fn of_both(
+    builder: RegistryBuilder,
+    round: impl Fn(&Registry, u64) -> Result<(), Error>,
+    read: Reading,
+) -> Result<[(u64, u64); 2], Error> {
+    const TURNS: u64 = 200;
+    const ROUNDS_OF_A_TURN: u64 = 5;
+    let (registry, mut drain) = builder.ring(1024).build()?;
+    let gate = Barrier::new(2);
+    thread::scope(|scope| {
+        let reader = scope.spawn(|| {
+            let (mut note, mut before) = (Note::default(), so_far());
+            for turn in 0..2 * TURNS {
+                if turn == TURNS {
+                    before = so_far();
+                }
+                gate.wait();
+                read(&mut drain, &mut note);
+                gate.wait();
+            }
+            since(before)
+        });
+        let (mut done, mut before) = (Ok(()), so_far());
+        for turn in 0..2 * TURNS {
+            if turn == TURNS {
+                before = so_far();
+            }
+            // The reader waits for each turn, whatever this one comes to.
+            done = done.and_then(|()| (0..ROUNDS_OF_A_TURN).try_for_each(|_| round(&registry, turn)));
+            gate.wait();
+            gate.wait();
+        }
+        let of_calls = since(before);
+        let of_reader = reader.join().expect("a reader");
+        done.map(|()| [of_calls, of_reader])
+    })
+}
+
+#[test]
+fn with_trees_no_block_goes_from_who_calls_to_who_reads() -> Result<(), Error> {
+    let trees = || Registry::builder().layer(Layer::tree());
+    for round in [by_macros, by_methods] {
+        for read in [read_notes as Reading, write_lines] {
+            for builder in [trees(), trees().layer(Layer::compact()).layer(Layer::tree())] {
+                let [(taken, freed), of_reader] = of_both(builder, round, read)?;
+                assert_eq!((of_reader, freed), ((0, 0), taken));
+            }
+        }
+    }
     Ok(())
 }
