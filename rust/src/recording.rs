@@ -19,7 +19,13 @@ impl<'a> Recording<'a> {
     #[must_use]
     pub fn of(span: &'a Span) -> Option<Recording<'a>> {
         let (registry, id) = span.own()?;
-        Some(Recording { registry, id })
+        Some(Recording::at(registry, id))
+    }
+
+    /// By the id of a span.
+    #[must_use]
+    pub fn at(registry: &'a Registry, id: Id) -> Recording<'a> {
+        Recording { registry, id }
     }
 
     /// For `try_record!`.

@@ -31,11 +31,6 @@ impl Fields {
         (self.message, self.given)
     }
 
-    /// The fields as texts, for calls that take no kinds.
-    pub(crate) fn as_texts(&self) -> Vec<(&str, &str)> {
-        self.given.iter().map(|(key, value, _)| (*key, value.as_str())).collect()
-    }
-
     fn put(&mut self, field: &Field, text: String, kind: Kind) {
         if self.place.is_message(field.name()) {
             self.message = text;

@@ -1,8 +1,8 @@
 //! The callsites of `tracing`, each as a place of the package's macros.
 #![forbid(unsafe_code)]
 use crate::fields::Given;
-use span_registry::__private::Site;
-use span_registry::{Level, Parent, Registry, Span};
+use span_registry::__private::{Recording, Site};
+use span_registry::{Error, Id, Level, Parent, Registry, Span};
 use std::borrow::Cow;
 use std::collections::HashMap;
 use std::sync::{LazyLock, PoisonError, RwLock};
@@ -92,6 +92,12 @@ impl Place {
     pub(crate) fn key(&self, field: &'static str) -> &'static str {
         self.renamed.iter().find(|(name, _)| *name == field).map_or(field, |(_, key)| key)
     }
+}
+
+/// Records fields of a span, as the package's macros do.
+pub(crate) fn record(registry: &Registry, id: Id, given: Vec<Given>) -> Result<(), Error> {
+    let recording = Recording::at(registry, id);
+    as_array!(given, |fields| recording.try_record(fields))
 }
 
 #[derive(Default)]

@@ -3,7 +3,7 @@
 use crate::builder::SubscriberBuilder;
 use crate::fields::Fields;
 use crate::lost::{Losses, Lost};
-use crate::places::{level_of, level_there, numbered, place, Place};
+use crate::places::{level_of, level_there, numbered, place, record, Place};
 use span_registry::{Error, Kind, Parent, Registry, Span};
 use std::cell::RefCell;
 use std::fmt;
@@ -186,12 +186,14 @@ impl Subscriber for ProvedSubscriber {
         let Some(place) = self.or_lost(self.place_of(id).ok_or(Error::Unknown)) else { return };
         let mut fields = Fields::at(place);
         values.record(&mut fields);
-        self.or_lost(self.registry().record(id, &fields.as_texts()));
+        let (_, given) = fields.taken();
+        self.or_lost(record(self.registry(), id, given));
     }
 
     fn record_follows_from(&self, id: &Id, follows: &Id) {
         if let (Some(id), Some(follows)) = (self.ours(id), self.ours(follows)) {
-            self.or_lost(self.registry().record(id, &[("follows_from", &follows.to_string())]));
+            let told = vec![("follows_from", follows.to_string(), Kind::Integer)];
+            self.or_lost(record(self.registry(), id, told));
         }
     }
 

@@ -66,6 +66,7 @@ fn values_keep_their_kinds() {
         let span =
             info_span!("kinds", n = -3, u = 4_u8, big = u128::MAX, f = 2.5, b = true, t = "3", d = ?7, none = Empty);
         span.record("none", 8);
+        span.follows_from(&span);
         info!(parent: &span, rows = 3, ok = false, "m");
     });
     let notes: Vec<_> = std::iter::from_fn(|| drain.note()).collect();
@@ -76,12 +77,13 @@ fn values_keep_their_kinds() {
     let [i, f, b, t] = [Kind::Integer, Kind::Float, Kind::Bool, Kind::Text];
     let given = [("n", i), ("u", i), ("big", i), ("f", f), ("b", b), ("t", t), ("d", t)];
     assert_eq!(kinds(NoteKind::New), given.map(|(key, kind)| (key.to_owned(), kind)));
+    assert_eq!(kinds(NoteKind::Record), [("none".to_owned(), i)]);
+    let all = given.into_iter().chain([("none", i), ("follows_from", i)]);
+    assert_eq!(kinds(NoteKind::Close), all.map(|(key, kind)| (key.to_owned(), kind)).collect::<Vec<_>>());
     let given = [("parent", i), ("rows", i), ("ok", b)];
     assert_eq!(kinds(NoteKind::Event), given.map(|(key, kind)| (key.to_owned(), kind)));
     let line = notes[0].to_string();
     assert!(line.contains("[\"f\",2.5]") && line.contains("[\"t\",\"3\"]"), "{line}");
-    // The package takes no kinds with what is recorded.
-    assert_eq!(kinds(NoteKind::Record), [("none".to_owned(), t)]);
     assert_clean(&subscriber);
 }
 
