@@ -83,9 +83,10 @@ impl Drain {
         let mut lines = 0;
         while let Some((layer, length)) = self.next_ready(&goes_on) {
             let part = self.parts.part(self.at as u32);
-            let line = self.heads[self.at].with_newline(part, length);
+            let head = &mut self.heads[self.at];
+            let line = head.with_newline(part, length);
             workers::writing(self.parts.common(), || outs.write(layer, line))?;
-            self.heads[self.at].ready = None;
+            head.ready = None;
             lines += 1;
         }
         Ok(lines)
