@@ -1,5 +1,5 @@
 -- From a line's JSON value to what the line does, and to what was written.
-use Rattle.std.proofs.Common.{◌≡◌, ℕ, List, [], true, false, refl, sym, ◌∙◌, subst, Result, Ok, Err}
+use Rattle.std.proofs.Common.{◌≡◌, ℕ, List, [], ◌∷◌, true, false, refl, sym, ◌∙◌, subst, Result, Ok, Err}
 use Rattle.std.specs.Io.KnownBytes.{Appends}
 use Rattle.std.proofs.KnownBytes.{Appends-nil, Keeps-refl}
 use Rattle.serde_json.specs.Data.{Data}
@@ -8,7 +8,7 @@ use Rattle.span_replay.specs.inside.Ended.{fault_at}
 use Rattle.span_replay.specs.Meaning.{Turn, line_turn, read_turn, value_turn}
 use Rattle.span_script.specs.Operation.{json_of}
 use Rattle.span_script.specs.Reason.{StopsFor}
-use Rattle.span_script.specs.Script.{is_skipped}
+use Rattle.span_script.specs.Script.{is_skipped, script_lines}
 use Rattle.span_replay.specs.State.{State}
 use Rattle.span_replay.specs.inside.Turns.{HasTurned, TurnFails}
 use Rattle.span_script.specs.declared.reason.Reason.{Reason}
@@ -17,6 +17,10 @@ use Rattle.span_replay.specs.declared.run.fault.ReplayFault.TheVariants.{Write}
 use Rattle.span_script.specs.declared.stop.Stop.{Stop}
 use Rattle.span_script.specs.declared.stop.Stop.TheVariants.{Memory, Refused}
 use Rattle.span_run.proofs.Fronts.{Known}
+
+pub empty_line : (script tail : List ℕ) → script ≡ 10 ∷ tail → script_lines script ≡ [] ∷ script_lines tail
+unfolding script_lines
+empty_line script tail first = rw first refl
 
 pub skipped_line : (hooks : ℕ) (state : State) (line : List ℕ) (a : Known) → is_skipped line ≡ true → HasTurned (line_turn hooks state line) state a a
 skipped_line hooks state line a k = record { text = []; is = rw k refl; written = Appends-nil a }

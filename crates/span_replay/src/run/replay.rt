@@ -1,5 +1,5 @@
 //! Running a whole script: reading it, its lines, the tidying and the last line, and writing out.
-ghost use Rattle.std.specs.Prelude.{◌≡◌, ◌+◌, ◌≤◌, ℕ, IfOk, IfErr, IfSome, OnOk, length, vec_len};
+ghost use Rattle.std.specs.Prelude.{◌≡◌, ◌+◌, ◌≤◌, ◌∷◌, ℕ, Some, IfOk, IfErr, IfSome, IfNone, OnOk, length, slice_get, vec_len};
 ghost use Rattle.std.specs.Io.KnownBytes.{IsAtEnd};
 ghost use Rattle.span_run.specs.Counted.{inner_of, calls_of, failed_of, flushes_of};
 ghost use Rattle.span_replay.specs.Meaning.{last_part, run};
@@ -169,6 +169,11 @@ where
     let mut lines = script;
     let mut number = 1u64;
     while !lines.is_empty() {
+        if let Some(tail) = after_empty_line(lines) {
+            lines = tail;
+            number += 1;
+            continue;
+        }
         let (line, tail) = cut_line(lines);
         lines = tail;
         // Asked here, so that nothing is made ready for a line that is skipped.
@@ -183,4 +188,16 @@ where
         number += 1;
     }
     Ok(())
+}
+
+// What follows an empty line, if the script begins with one: it needs no look for its end.
+#[inline(always)]
+fn after_empty_line(script: &[u8]) -> Option<&[u8]>
+    ensures some { IfSome result (λ tail. script.now ≡ 10 ∷ tail.now) }
+    ensures none { IfNone result (slice_get script.now 0 ≡ Some 10 → ⊥) }
+{
+    match script {
+        [b'\n', tail @ ..] => Some(tail),
+        _ => None,
+    }
 }
