@@ -11,8 +11,8 @@ use crate::call_costs::core_loop::calls_on_core;
 use crate::call_costs::registry_loop::calls_on_registry;
 use crate::call_costs::slow_reader::beside_a_slow_reader;
 use crate::ended::{Ended, Made};
-use crate::layers::{add, write};
-use crate::order::Order;
+use crate::layers::{add, plain, write};
+use crate::order::{Beside, Order};
 use crate::soak::soaked::soak;
 use span_id::{Fault, Meta};
 use span_layers::{Form, Hooks, Layers, Note, Rule, Style, admits};
@@ -22,7 +22,7 @@ use std::sync::Wait;
 use std::thread::Threads;
 use std::time::Clock;
 
-/// Makes a run. Its layers admit everything. The closures' contracts are what `Hooks::new` asks for.
+/// Makes a run. Its layers admit everything; only those beside a reader have closures, and a storm has no layer.
 pub fn make<R: Threads + Wait + Clock + Sync>(
     rt: &R,
     alloc: Global,
@@ -30,49 +30,51 @@ pub fn make<R: Threads + Wait + Clock + Sync>(
 ) -> Result<Made, Fault>
     requires { MayBeAsked order.now }
 {
-    let more = order.more();
     let style = Style {
         form: Form::Compact,
         spans: order.spans(),
     };
-    let mut layers = Layers::new(alloc);
-    for _ in 0..order.layers() {
-        let admit = Box::new(
-            alloc,
-            |rule: &Rule, meta: &Meta| -> bool
-                ensures { result
-                    ≡ is_admitted (pairs_of rule.now) (string_bytes meta.now.target) meta.now.level }
-            { admits(rule, meta) },
-        )?;
-        let say = Box::new(
-            alloc,
-            move |alloc: Global, form: Form, note: &Note| -> Result<Vec<u8>, AllocError>
-                ensures { ForOk result (λ text. text.items ≡ text_of form (plain_note note.now)) }
-            { write(alloc, form, note, more) },
-        )?;
-        add(alloc, &mut layers, style, Hooks::new(admit, say))?;
+    match order {
+        Order::Core(shape) => calls_on_core(alloc, shape, plain(alloc, shape.layers, style)?),
+        Order::Registry(shape) => {
+            calls_on_registry(rt, alloc, shape, plain(alloc, shape.layers, style)?)
+        }
+        Order::Storm { workers, rounds } => in_a_storm(rt, alloc, *workers, *rounds),
+        Order::Chain { length } => chain(alloc, *length, plain(alloc, 1, style)?),
+        Order::Beside(beside) => numbers_of(with_closures(rt, alloc, beside, style)),
     }
-    make_with(rt, alloc, order, layers)
 }
 
-// The run with these layers. A storm has none.
-fn make_with<R: Threads + Wait + Clock + Sync>(
+// The run beside a reader, whose layer has closures. Their contracts are what `Hooks::new` asks for.
+fn with_closures<R: Threads + Wait + Clock + Sync>(
     rt: &R,
     alloc: Global,
-    order: &Order,
-    layers: Layers,
-) -> Result<Made, Fault>
-    requires { MayBeAsked order.now }
+    beside: &Beside,
+    style: Style,
+) -> Result<Ended, Fault>
+    requires { MayBeAsked (Order.Beside beside.now) }
 {
-    match order {
-        Order::Core(shape) => calls_on_core(alloc, shape, layers),
-        Order::Registry(shape) => calls_on_registry(rt, alloc, shape, layers),
-        Order::Storm { workers, rounds } => in_a_storm(rt, alloc, *workers, *rounds),
-        Order::Chain { length } => chain(alloc, *length, layers),
-        Order::Slow { places, rounds } => {
-            numbers_of(beside_a_slow_reader(rt, alloc, *places, *rounds, layers))
+    let more = beside.more();
+    let mut layers = Layers::new(alloc);
+    let admit = Box::new(
+        alloc,
+        |rule: &Rule, meta: &Meta| -> bool
+            ensures { result
+                ≡ is_admitted (pairs_of rule.now) (string_bytes meta.now.target) meta.now.level }
+        { admits(rule, meta) },
+    )?;
+    let say = Box::new(
+        alloc,
+        move |alloc: Global, form: Form, note: &Note| -> Result<Vec<u8>, AllocError>
+            ensures { ForOk result (λ text. text.items ≡ text_of form (plain_note note.now)) }
+        { write(alloc, form, note, more) },
+    )?;
+    add(alloc, &mut layers, style, Hooks::new(admit, say))?;
+    match beside {
+        Beside::Slow { places, rounds } => {
+            beside_a_slow_reader(rt, alloc, *places, *rounds, layers)
         }
-        Order::Soak(crew) => numbers_of(soak(rt, alloc, crew, layers)),
+        Beside::Soak(crew) => soak(rt, alloc, crew, layers),
     }
 }
 

@@ -60,36 +60,36 @@ pub enum Order {
     Storm { workers: u32, rounds: u32 },
     /// A chain of so many spans, and its end.
     Chain { length: u32 },
+    /// A run beside a reader.
+    Beside(Beside),
+}
+
+/// A run beside a reader in a thread of its own.
+#[derive(Clone, Copy)]
+pub enum Beside {
     /// Rounds beside a slow reader, through a ring of so many places.
     Slow { places: u32, rounds: u32 },
     /// A long run of random calls.
     Soak(Crew),
 }
 
-impl Order {
-    /// How many layers the run has.
-    pub fn layers(&self) -> u32 {
+impl Beside {
+    /// How many times more the layer makes the text of a note.
+    pub fn more(&self) -> u32 {
         match self {
-            Order::Core(shape) | Order::Registry(shape) => shape.layers,
-            Order::Storm { .. } => 0,
-            Order::Chain { .. } | Order::Slow { .. } | Order::Soak(_) => 1,
+            Beside::Slow { .. } => 200,
+            Beside::Soak(_) => 0,
         }
     }
+}
 
+impl Order {
     /// Which of a span's notes the layers want. A chain's would each have the
     /// path to its root, so it has none.
     pub fn spans(&self) -> FmtSpan {
         match self {
             Order::Chain { .. } => FmtSpan::NONE,
             _ => FmtSpan::FULL,
-        }
-    }
-
-    /// How many times more the layers make the text of a note.
-    pub fn more(&self) -> u32 {
-        match self {
-            Order::Slow { .. } => 200,
-            _ => 0,
         }
     }
 }
@@ -111,16 +111,16 @@ pub const SHORT_RUNS: [Order; 5] = [
         rounds: 3,
     },
     Order::Chain { length: 1000 },
-    Order::Slow {
+    Order::Beside(Beside::Slow {
         places: 1,
         rounds: 10,
-    },
+    }),
 ];
 
 /// A short one of the long run.
-pub const SHORT_SOAK: Order = Order::Soak(Crew {
+pub const SHORT_SOAK: Order = Order::Beside(Beside::Soak(Crew {
     workers: 4,
     places: 4,
     rounds: 500,
     seed: 1,
-});
+}));

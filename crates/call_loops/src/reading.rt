@@ -123,7 +123,7 @@ pub fn read_waiting<V>(reader: &mut LineReader<V>) -> u64
 {
     let mut lines = 0u64;
     while let Some(line) = reader.next() {
-        drop(line);
+        reader.take_back(line);
         lines = lines.saturating_add(1);
     }
     lines

@@ -1,17 +1,17 @@
 //! A long chain of spans: each is made under the one before, whose handle is given back at once.
 ghost use Rattle.std.specs.Prelude.{◌≡◌, ◌<◌};
 
-use crate::call_costs::core_loop::{CoreLoop, PLACES, read_all};
+use crate::call_costs::core_loop::{CoreLoop, PLACES, PlainCore, read_all};
 use crate::ended::Made;
+use crate::layers::PlainLayers;
 use crate::texts::Texts;
-use span_core::Core;
 use span_id::{Fault, Id, Limits};
-use span_layers::{Layers, Say};
-use span_outlet::{LineReader, ParentOf, Ring};
+use span_layers::Say;
+use span_outlet::{LineReader, ParentOf};
 use std::alloc::Global;
 
 /// Makes the chain, tells an event inside its last span, and gives the last handle back: then all of it closes.
-pub fn chain(alloc: Global, length: u32, layers: Layers) -> Result<Made, Fault> {
+pub fn chain(alloc: Global, length: u32, layers: PlainLayers) -> Result<Made, Fault> {
     let limits = Limits {
         workers: 1,
         ring: PLACES,
@@ -29,7 +29,7 @@ pub fn chain(alloc: Global, length: u32, layers: Layers) -> Result<Made, Fault> 
 fn make_links<V: Say>(
     length: u32,
     texts: &Texts,
-    core: &mut Core<Ring>,
+    core: &mut PlainCore,
     reader: &mut LineReader<V>,
 ) -> Result<Made, Fault>
     requires { 0 < core.old.limits.workers }
@@ -53,7 +53,7 @@ fn make_links<V: Say>(
 }
 
 // A span more, under the last one, whose handle is given back.
-fn link(core: &mut Core<Ring>, texts: &Texts, last: Option<Id>) -> Result<Option<Id>, Fault>
+fn link(core: &mut PlainCore, texts: &Texts, last: Option<Id>) -> Result<Option<Id>, Fault>
     requires { 0 < core.old.limits.workers }
     ensures { core.new.limits ≡ core.old.limits }
 {
@@ -69,7 +69,7 @@ fn link(core: &mut Core<Ring>, texts: &Texts, last: Option<Id>) -> Result<Option
 }
 
 // An event inside a span.
-fn tell_inside(core: &mut Core<Ring>, texts: &Texts, id: Id) -> Result<(), Fault>
+fn tell_inside(core: &mut PlainCore, texts: &Texts, id: Id) -> Result<(), Fault>
     requires { 0 < core.old.limits.workers }
     ensures { core.new.limits ≡ core.old.limits }
 {

@@ -2,24 +2,28 @@
 ghost use Rattle.std.specs.Prelude.{◌≡◌, ◌<◌, IfOk};
 
 use crate::ended::Made;
+use crate::layers::PlainLayers;
 use crate::order::Shape;
 use crate::parts::CoreParts;
 use crate::reading::read_waiting;
 use crate::texts::Texts;
 use span_core::Core;
 use span_id::{Fault, Limits};
-use span_layers::{Formatters, Layers, Say};
+use span_layers::{Admitters, ByForm, ByRule, Formatters, Say};
 use span_outlet::{LineReader, ParentOf, Ring};
 use std::alloc::Global;
 
 /// How many places the ring has.
 pub const PLACES: u32 = 8;
 
+/// A core whose layers have no closures.
+pub type PlainCore = Core<Ring, Admitters<ByRule>>;
+
 /// A core over a ring in whose thread the lines are read, and what its calls pass.
 pub struct CoreLoop {
     pub texts: Texts,
-    pub core: Core<Ring>,
-    pub reader: LineReader<Formatters>,
+    pub core: PlainCore,
+    pub reader: LineReader<Formatters<ByForm>>,
 }
 
 impl CoreLoop {
@@ -28,7 +32,7 @@ impl CoreLoop {
         alloc: Global,
         limits: Limits,
         fields: u32,
-        layers: Layers,
+        layers: PlainLayers,
     ) -> Result<CoreLoop, Fault>
         ensures { IfOk result (λ made. made.core.limits ≡ limits) }
     {
@@ -50,7 +54,7 @@ impl CoreLoop {
 }
 
 /// Makes the rounds, each with its five calls at this depth, and answers what came of them.
-pub fn calls_on_core(alloc: Global, shape: &Shape, layers: Layers) -> Result<Made, Fault> {
+pub fn calls_on_core(alloc: Global, shape: &Shape, layers: PlainLayers) -> Result<Made, Fault> {
     let limits = Limits {
         workers: 1,
         ring: PLACES,
@@ -68,7 +72,7 @@ pub fn calls_on_core(alloc: Global, shape: &Shape, layers: Layers) -> Result<Mad
 fn make_rounds<V: Say>(
     shape: &Shape,
     texts: &Texts,
-    core: &mut Core<Ring>,
+    core: &mut PlainCore,
     reader: &mut LineReader<V>,
 ) -> Result<Made, Fault>
     requires { 0 < core.old.limits.workers }
@@ -90,7 +94,7 @@ fn make_rounds<V: Say>(
 }
 
 // A span more under the current one, which is entered and stays.
-fn stand(core: &mut Core<Ring>, texts: &Texts) -> Result<(), Fault>
+fn stand(core: &mut PlainCore, texts: &Texts) -> Result<(), Fault>
     requires { 0 < core.old.limits.workers }
     ensures { core.new.limits ≡ core.old.limits }
 {
@@ -101,7 +105,7 @@ fn stand(core: &mut Core<Ring>, texts: &Texts) -> Result<(), Fault>
 }
 
 // A span under the current one is made, entered, told an event, left and closed.
-fn round(core: &mut Core<Ring>, texts: &Texts) -> Result<(), Fault>
+fn round(core: &mut PlainCore, texts: &Texts) -> Result<(), Fault>
     requires { 0 < core.old.limits.workers }
     ensures { core.new.limits ≡ core.old.limits }
 {

@@ -4,11 +4,12 @@ ghost use Rattle.span_registry.specs.Blanks.{blanks_of};
 
 use crate::call_costs::core_loop::{PLACES, read_all};
 use crate::ended::Made;
+use crate::layers::PlainLayers;
 use crate::order::Shape;
 use crate::parts::{CoreParts, Parts};
 use crate::texts::Texts;
 use span_id::{Fault, Limits};
-use span_layers::{Filters, Layers, Say};
+use span_layers::{Admitters, ByRule, Filters, Say};
 use span_outlet::LineReader;
 use span_registry::{
     Blanks, DroppableHandle, Handle, ParentOf, RefusedClose, Registry, Ring, Setup, Worker,
@@ -18,12 +19,15 @@ use std::marker::Brand;
 use std::sync::Wait;
 use std::sync::ledger::Ledger;
 
+// A registry whose layers have no closures.
+type PlainRegistry<H, C, S> = Registry<H, C, S, Ring, Admitters<ByRule>>;
+
 /// Makes the rounds, each with its five calls at this depth, and answers what came of them.
 pub fn calls_on_registry<R: Wait>(
     rt: &R,
     alloc: Global,
     shape: &Shape,
-    layers: Layers,
+    layers: PlainLayers,
 ) -> Result<Made, Fault> {
     let limits = Limits {
         workers: 1,
@@ -56,7 +60,7 @@ fn run<H: Ledger, C: Ledger, S: Setup, V: Say + Drop, R: Wait>(
     alloc: Global,
     shape: &Shape,
     texts: &Texts,
-    filters: Filters,
+    filters: Filters<ByRule>,
     ring: Ring,
     reader: LineReader<V>,
     blanks: Blanks,
@@ -66,7 +70,7 @@ fn run<H: Ledger, C: Ledger, S: Setup, V: Say + Drop, R: Wait>(
     requires ring { ring.sent ≡ [] }
     requires blanks { blanks ≡ blanks_of S.limits H.name H.parts C.name C.parts S.table S.history }
 {
-    let (registry, mut workers) = Registry::<H, C, S, Ring>::new(alloc, filters, ring, blanks)?;
+    let (registry, mut workers) = PlainRegistry::<H, C, S>::new(alloc, filters, ring, blanks)?;
     let Some(worker) = workers.get_mut(0) else {
         unreachable!()
     };
@@ -77,7 +81,7 @@ fn run<H: Ledger, C: Ledger, S: Setup, V: Say + Drop, R: Wait>(
 // Stands as deep as the shape says, and makes its rounds there. The lines are read after each of them.
 fn make_rounds<H: Ledger, C: Ledger, S: Setup, V: Say, R: Wait>(
     rt: &R,
-    registry: &Registry<H, C, S, Ring>,
+    registry: &PlainRegistry<H, C, S>,
     worker: &mut Worker<H, C, S>,
     reader: &mut LineReader<V>,
     texts: &Texts,
@@ -102,7 +106,7 @@ fn make_rounds<H: Ledger, C: Ledger, S: Setup, V: Say, R: Wait>(
 // A span more under the current one, which is entered and stays. Its handle is given up.
 fn stand<H: Ledger, C: Ledger, S: Setup, R: Wait>(
     rt: &R,
-    registry: &Registry<H, C, S, Ring>,
+    registry: &PlainRegistry<H, C, S>,
     worker: &mut Worker<H, C, S>,
     texts: &Texts,
 ) -> Result<(), Fault> {
@@ -117,7 +121,7 @@ fn stand<H: Ledger, C: Ledger, S: Setup, R: Wait>(
 // A span under the current one is made, entered, told an event, left and closed.
 fn round<H: Ledger, C: Ledger, S: Setup, R: Wait>(
     rt: &R,
-    registry: &Registry<H, C, S, Ring>,
+    registry: &PlainRegistry<H, C, S>,
     worker: &mut Worker<H, C, S>,
     texts: &Texts,
 ) -> Result<(), Fault> {
@@ -140,7 +144,7 @@ fn round<H: Ledger, C: Ledger, S: Setup, R: Wait>(
 // The span is entered, told an event and left.
 fn visit<H: Ledger, C: Ledger, S: Setup, R: Wait>(
     rt: &R,
-    registry: &Registry<H, C, S, Ring>,
+    registry: &PlainRegistry<H, C, S>,
     worker: &mut Worker<H, C, S>,
     texts: &Texts,
     handle: &mut Handle<H, C, S>,

@@ -3,7 +3,7 @@ ghost use Rattle.std.specs.Prelude.{◌≤◌, IfSome};
 ghost use Rattle.call_loops.specs.Order.{MayBeAsked};
 
 use crate::numbers::small_number;
-use crate::order::{Order, Shape};
+use crate::order::{Beside, Order, Shape};
 
 /// The run that the words name, if they name one.
 pub fn read_order(words: &[String]) -> Option<Order>
@@ -23,7 +23,7 @@ pub fn read_order(words: &[String]) -> Option<Order>
         }),
         "slow" => {
             let (places, rounds) = two(numbers, 65536, 1_000_000)?;
-            Some(Order::Slow { places, rounds })
+            Some(Order::Beside(Beside::Slow { places, rounds }))
         }
         _ => None,
     }

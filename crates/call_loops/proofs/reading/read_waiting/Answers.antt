@@ -11,8 +11,8 @@ loop-line-preserved g c =
     let next = c.in-Some.ensures in
     let mid = c.loop-line.reader in
     let new = c.next.new.self in
-    record {
+    rw c.take_back.ensures (record {
       same = still c.args.reader.now mid new before.same next.rest;
       read = moved_out mid new _ next.some next.given ∙ before.read;
       lines = gives_one _ mid new _ _ _ before.lines next.given (search rules);
-    }
+    })
