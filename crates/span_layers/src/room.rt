@@ -11,6 +11,9 @@ const BLOCK: usize = 32;
 // The blanks before the id, the worker and the path, and the `w`.
 const COMPACT_HEAD: usize = 4;
 
+// The longest kind's name, and the digits of the greatest id and of the greatest worker.
+const MOST_HEAD: usize = 6 + 20 + 10;
+
 // A blank and an equals sign.
 const COMPACT_PAIR: usize = 2;
 
@@ -34,7 +37,18 @@ const LONG_SPARE: usize = 48;
 
 /// The length of a note's compact text, and a few bytes more.
 pub(crate) fn compact_room(note: &Note) -> usize {
-    let head = head_len(note).saturating_add(COMPACT_HEAD + COMPACT_SPARE);
+    compact_room_behind(head_len(note), note)
+}
+
+/// The same with the longest kind and numbers, which takes no look at them: for a buffer that serves text after text.
+pub(crate) fn compact_room_at_most(note: &Note) -> usize {
+    compact_room_behind(MOST_HEAD, note)
+}
+
+// The same where the kind and the numbers take so many bytes.
+#[inline(always)]
+fn compact_room_behind(head: usize, note: &Note) -> usize {
+    let head = head.saturating_add(COMPACT_HEAD + COMPACT_SPARE);
     let mut room = head.saturating_add(note.path.len());
     if let Some((level, message)) = event_shown(note) {
         room = room
