@@ -52,6 +52,7 @@ COMMANDS = [
     Command("labels", "counted", 2, "bench/instructions.py --old {before} --figures labels"),
     Command("many-layers", "counted", 2, "bench/instructions.py --old {before} --figures many-layers"),
     Command("plain-lines", "counted", 2, "bench/instructions.py --old {before} --figures plain-lines"),
+    Command("compact-heads", "counted", 2, "bench/instructions.py --old {before} --figures compact-heads"),
     Command("long-run", "counted", 12, "tests/soak.py --minutes 10 --figures"),
     Command("stress stress-original", "counted", 12, "tests/tracing.py --part stress --seconds 600 --figures"),
     Command("tests-of-the-original", "counted", 6, "tests/tracing.py --part suites --figures"),

@@ -2,9 +2,11 @@
 """Measures what a call of the library costs beside the peer: loops of new, enter, event, exit and close.
 
 Each loop is run by `call_loops call-costs` (crates/call_loops) and by the peer in turn, on a registry without its lock
-(`core`) and on one whose lock each call takes (`registry`), from which the time under the lock is seen. The lines are
-written by a reader of the ring in the same thread and dropped. Told are nanoseconds of CPU (user and system, the least
-of the runs) and allocations for each call. Storms without layers are told by the clock, the middle one of the runs. Chains of three lengths show whether time and memory grow as the length does.
+(`core`) and on one whose lock each call takes (`registry`), from which the time under the lock is seen. No layer has a
+closure. The lines are written by a reader of the ring in the same thread, which takes them back; the peer's are
+dropped. Told are nanoseconds of CPU (user and system, the least of the runs) and allocations for each call. Storms
+without layers are told by the clock, the middle one of the runs. Chains of three lengths show whether time and memory
+grow as the length does.
 
 With --figures what pages have of it goes to bench/figures (tests/figures.py).
 

@@ -4,13 +4,14 @@
 of a replay by those of an earlier build's, for each kind of script.
 
 usage: instructions.py [--store FILE] [--library FILE] [--figures] [store-calls] [package-round]
-       instructions.py --old PROGRAM [--program PROGRAM] [--figures] replays|labels|many-layers|plain-lines
+       instructions.py --old PROGRAM [--program PROGRAM] [--figures] replays|labels|many-layers|plain-lines|compact-heads
 
 With no name the first two are counted. FILE are the libraries that `rt lib` leaves in crates/span_store_ffi and
 crates/span_ffi, PROGRAM the tracerun of the earlier build, and that of this checkout if it isn't given: for `replays`
 the one before lines shared metas, for `labels` the one before labels bound lately were known, for `many-layers` the
 one before notes took the texts of those before them, for `plain-lines` the one before lines without escapes were read
-without an index. With --figures the counts go to bench/figures/NAME.json, from where tests/figures.py takes them to the pages.
+without an index, for `compact-heads` the one before heads of compact texts were written by fewer copies and empty lines
+passed over. With --figures the counts go to bench/figures/NAME.json, from where tests/figures.py takes them to the pages.
 """
 import argparse
 import os
@@ -35,7 +36,7 @@ CALLS = {
     "keep": (["kept"], ["keep", "release"]),
 }
 KINDS = {"callsite": "", "ids": "by_ids_", "span": "span_"}  # of rounds, and what their figures' names begin with
-OF_REPLAYS = ("replays", "labels", "many-layers", "plain-lines")
+OF_REPLAYS = ("replays", "labels", "many-layers", "plain-lines", "compact-heads")
 FEW, MANY = 1_000, 3_000  # rounds: what the start takes is in both
 SIZE = 131_072  # bytes of a script
 
