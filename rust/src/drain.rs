@@ -220,13 +220,13 @@ impl Drain {
     fn look_at(&mut self, at: usize) -> bool {
         let part = self.parts.part(at as u32);
         let head = &mut self.heads[at];
-        if !head.look(part, &self.forms) {
-            return false;
+        while head.look(part, &self.forms) {
+            let is_whole = at == 0 && part.ring().notes().is_none();
+            if is_whole || told(part, &self.forms, head) {
+                return true;
+            }
         }
-        if at > 0 || part.ring().notes().is_some() {
-            told(part, &self.forms, head);
-        }
-        true
+        false
     }
 
     // Whether something was owed or lost, and some of it was done or told now.
@@ -252,13 +252,18 @@ fn least(heads: &[Head]) -> Option<(u64, usize)> {
     ready.map(|(at, head)| (head.stamp, at)).min()
 }
 
-// Makes the line what is told of the part: a note by what was kept of its call, a text by the part's numbers.
+// Makes the line what is told of the part: a note by what was kept of its call, a text by the part's numbers. False
+// where who calls threw away what was kept, with the lines that come next: then the note is lost as these are.
 #[inline(never)]
-fn told(part: &Part, forms: &[Form], head: &mut Head) {
+fn told(part: &Part, forms: &[Form], head: &mut Head) -> bool {
     if let Some(notes) = part.ring().notes() {
-        let mut book = book_at(part, notes, head.batch);
-        book.reads(head.batch);
+        let book = book_at(part, notes, head.batch);
         if head.is_note {
+            let Some(mut book) = book else {
+                head.ready = None;
+                part.common().losses().lose_line();
+                return false;
+            };
             head.told.complete(&mut book, part.common().interest());
         }
     }
@@ -266,19 +271,21 @@ fn told(part: &Part, forms: &[Form], head: &mut Head) {
         let form = head.ready.map(|(layer, _)| forms[layer]);
         head.put_part(form == Some(Form::Compact), part);
     }
+    true
 }
 
-// The book, of which the call of this number is the first.
-fn book_at<'a>(part: &Part, notes: &'a Notes, number: u64) -> MutexGuard<'a, Book> {
+// The book, of which the call of this number is the first. None where it isn't there any longer.
+fn book_at<'a>(part: &Part, notes: &'a Notes, number: u64) -> Option<MutexGuard<'a, Book>> {
     let mut book = notes.book();
-    if !book.goes_to(number) {
+    let mut is_first = book.reads(number);
+    if !is_first && book.is_empty() {
         drop(book);
         // The call still has the lock.
         part.with(|_| ());
         book = notes.book();
-        book.goes_to(number);
+        is_first = book.reads(number);
     }
-    book
+    is_first.then_some(book)
 }
 
 // Whether something was owed or lost, and some of it was done or told now.
@@ -322,5 +329,69 @@ impl std::fmt::Debug for Drain {
             .field("layers", &self.forms.len())
             .field("is_over", &self.is_over())
             .finish()
+    }
+}
+
+#[cfg(test)]
+mod tests {
+    use super::{told, Drain};
+    use crate::{Error, Form, Layer, Level, Meta, OnFull, Registry};
+    use std::sync::Arc;
+
+    const LAYERS: [fn() -> Layer; 2] = [Layer::tree, Layer::compact];
+
+    // The line that is taken out next, before what was kept of its call is looked for.
+    fn take(drain: &mut Drain) {
+        let part = Arc::clone(drain.parts.part(0));
+        assert!(drain.heads[0].look(&part, &drain.forms));
+    }
+
+    #[test]
+    fn a_note_has_nothing_of_the_call_that_was_thrown_away_behind_its_own() -> Result<(), Error> {
+        for second in LAYERS {
+            let builder = Registry::builder().workers(1).ring(1).on_full(OnFull::DropOldest);
+            let (registry, mut drain) = builder.layer(Layer::tree()).layer(second()).build()?;
+            let tell = |text| registry.event(&Meta::event(Level::Info, text), text, &[]);
+            tell("a")?;
+            take(&mut drain);
+            tell("b")?;
+            // There is no place for this one: the other line of `a` and the first one of `b` make it.
+            tell("c")?;
+            assert_eq!(registry.lost().lines(), 2);
+            let part = Arc::clone(drain.parts.part(0));
+            assert!(!told(&part, &drain.forms, &mut drain.heads[0]));
+            assert_eq!((drain.heads[0].ready, registry.lost().lines()), (None, 3));
+            // Each of the others has its own.
+            let notes = std::iter::from_fn(|| drain.note()).map(|note| (note.message, note.target));
+            let notes: Vec<_> = notes.filter(|(_, target)| target != "span_registry").collect();
+            let of = |text: &str| (Some(text.to_owned()), text.to_owned());
+            let wanted = if drain.forms[1] == Form::Tree {
+                vec![of("b"), of("c"), of("c")]
+            } else {
+                vec![of("c")]
+            };
+            assert_eq!(notes, wanted);
+        }
+        Ok(())
+    }
+
+    #[test]
+    fn a_text_that_was_taken_stays_whole() -> Result<(), Error> {
+        let builder = Registry::builder().workers(1).ring(1).on_full(OnFull::DropOldest);
+        let (registry, mut drain) = builder.layer(Layer::compact()).layer(Layer::tree()).build()?;
+        let tell = |text| registry.event(&Meta::event(Level::Info, text), text, &[]);
+        tell("a")?;
+        take(&mut drain);
+        tell("b")?;
+        tell("c")?;
+        let part = Arc::clone(drain.parts.part(0));
+        assert!(told(&part, &drain.forms, &mut drain.heads[0]));
+        assert_eq!(
+            drain.line().map(|line| line.text).as_deref(),
+            Some("event 0 w0 - INFO a")
+        );
+        let note = drain.note().expect("the other line of the second");
+        assert_eq!((note.message.as_deref(), &*note.target), (Some("b"), "b"));
+        Ok(())
     }
 }

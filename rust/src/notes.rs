@@ -146,14 +146,25 @@ impl Book {
         }
     }
 
-    /// A line of the call of this number, which comes first now, is read. The span that it made is known from here on,
-    /// and those whose close was told by the lines before are not.
-    pub(crate) fn reads(&mut self, number: u64) {
+    /// Whether nothing is kept of any call whose lines weren't read.
+    pub(crate) fn is_empty(&self) -> bool {
+        self.calls.is_empty()
+    }
+
+    /// A line of the call of this number is read. The span that it made is known from here on, and those whose close was
+    /// told by the lines of calls before are not. False where nothing is kept of it any longer: then it doesn't come
+    /// first, but a later one does, whose lines were thrown away once this one was taken out.
+    #[must_use]
+    pub(crate) fn reads(&mut self, number: u64) -> bool {
+        let is_first = self.goes_to(number);
         if number > self.read {
             self.read = number;
             self.let_closed_go();
         }
-        self.keep_first();
+        if is_first {
+            self.keep_first();
+        }
+        is_first
     }
 
     fn keep_first(&mut self) {
@@ -291,13 +302,13 @@ mod tests {
         call(&notes, 4, What::Other, None)?;
         let mut book = notes.book();
         assert!(book.goes_to(1) && book.span(id(5)).is_none());
-        book.reads(1);
+        assert!(book.reads(1));
         assert_eq!(book.span(id(5)).map(|noted| noted.meta), Some(meta));
         assert!(book.goes_to(2) && book.recorded().is_some() && book.event().is_none());
         // Of two layers. Who calls may have thrown the next call's lines away in between.
         for first in [3, 4] {
             assert!(book.goes_to(first));
-            book.reads(3);
+            assert_eq!(book.reads(3), first == 3);
             let kinds = book
                 .span(id(5))
                 .map(|noted| noted.kinds.iter().take(5).collect::<Vec<_>>());
@@ -305,8 +316,8 @@ mod tests {
             assert_eq!(kinds.as_deref(), Some(&wanted[..]));
             book.is_closed(id(5));
         }
-        book.reads(4);
-        assert!(book.span(id(5)).is_none() && !book.goes_to(5));
+        assert!(book.reads(4) && book.span(id(5)).is_none() && !book.is_empty());
+        assert!(!book.goes_to(5) && book.is_empty());
         Ok(())
     }
 

@@ -97,6 +97,7 @@ impl Ring {
         let has_place = self.throw_lines(all);
         if let Some(notes) = &self.notes {
             let (taken, _) = self.lines().counts();
+            // A reader that took a line out just now finds that what was kept of it is gone, and loses that line.
             notes.book().goes_to(taken);
         }
         has_place

@@ -3,8 +3,8 @@ mod common;
 
 use common::{info, texts};
 use span_registry::{
-    event, retry, span, Drain, Error, FmtSpan, Form, Kind, Layer, Level, Note, NoteKind, OnFull, Parent, Registry,
-    Targets,
+    event, retry, span, Drain, Error, FmtSpan, Form, Kind, Layer, Level, Meta, Note, NoteKind, OnFull, Parent,
+    Registry, Targets,
 };
 use std::collections::HashMap;
 use std::thread;
@@ -186,6 +186,40 @@ fn slots_that_are_used_again_and_lines_that_are_thrown_away_mix_nothing_up() -> 
     Ok(())
 }
 
+#[test]
+fn a_note_that_is_read_while_lines_are_thrown_away_has_its_own_target_or_is_lost() -> Result<(), Error> {
+    const EVENTS: u64 = 60_000;
+    for ring in [1, 64] {
+        let builder = Registry::builder().ring(ring).on_full(OnFull::DropOldest);
+        let (registry, mut drain) = builder.layer(Layer::tree()).build()?;
+        let tell = |number: u64| {
+            let text = number.to_string();
+            registry.event(&Meta::event(Level::Info, &text), &text, &[])
+        };
+        let notes = thread::scope(|scope| {
+            let calling = scope.spawn(|| (0..EVENTS).try_for_each(tell).expect("there is place"));
+            let mut notes = 0;
+            loop {
+                let is_done = calling.is_finished();
+                while let Some(note) = drain.note() {
+                    notes += 1;
+                    let is_ours = note.target != "span_registry";
+                    assert_eq!(
+                        note.message.as_deref(),
+                        Some(if is_ours { &*note.target } else { "lost" })
+                    );
+                }
+                if is_done {
+                    break notes;
+                }
+            }
+        });
+        // Each call has a line.
+        assert_eq!(notes + registry.lost().lines(), registry.counts().calls);
+    }
+    Ok(())
+}
+
 /// Looks at so many notes; how many spans are open then.
 fn follow(drain: &mut Drain, count: usize) -> usize {
     let (mut last, mut open, mut notes) = (Duration::ZERO, HashMap::new(), 0);
@@ -235,7 +269,7 @@ fn the_tree_of_many_threads_can_be_built_again() -> Result<(), Error> {
 /// An event inside of a span.
 fn told_inside(registry: &Registry, inner: &span_registry::Span) {
     let _inside = retry(|| inner.try_enter()).expect("enter");
-    retry(|| registry.event(&span_registry::Meta::event(Level::Info, "app"), "m", &[])).expect("event");
+    retry(|| registry.event(&Meta::event(Level::Info, "app"), "m", &[])).expect("event");
 }
 
 #[test]
