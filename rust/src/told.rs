@@ -22,13 +22,20 @@ const BESIDE: usize = 200;
 pub(crate) struct Spare {
     message: String,
     fields: Vec<NoteField>,
+    // The most fields that one was read with: a note never lacks more, though the program's own may bring more.
+    most: usize,
 }
 
 impl Spare {
     // So many fields, of any texts.
     fn resize(&mut self, fields: &mut Vec<NoteField>, count: usize) {
+        self.most = self.most.max(count);
         while fields.len() > count {
-            self.fields.extend(fields.pop());
+            if self.fields.len() == self.most {
+                fields.truncate(count);
+            } else {
+                self.fields.extend(fields.pop());
+            }
         }
         while fields.len() < count {
             fields.push(self.fields.pop().unwrap_or_else(NoteField::empty));
@@ -196,4 +203,26 @@ fn as_given(key: &[u8]) -> Cow<'_, [u8]> {
 fn put(said: &[u8], text: &mut String) {
     text.clear();
     text.push_str(&text_of(said));
+}
+
+#[cfg(test)]
+mod tests {
+    use super::{NoteField, Spare};
+
+    #[test]
+    fn no_more_is_spare_than_a_note_may_lack() {
+        let mut spare = Spare::default();
+        for count in [3, 5, 0, 4] {
+            for _ in 0..100 {
+                // The program brings a note of its own each time.
+                let mut fields = vec![NoteField::empty(); 8];
+                spare.resize(&mut fields, count);
+                assert_eq!(fields.len(), count);
+            }
+        }
+        assert_eq!(spare.fields.len(), 5);
+        let mut fields = Vec::new();
+        spare.resize(&mut fields, 5);
+        assert_eq!((fields.len(), spare.fields.len()), (5, 0));
+    }
 }
