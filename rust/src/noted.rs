@@ -44,7 +44,8 @@ impl Named {
         let name = read(meta.name);
         block.clear();
         let bytes = name.len() + meta.target.len();
-        block.try_reserve(bytes).map_err(|_| Refusal::OUT_OF_MEMORY)?;
+        // No more than that: a block that is too long isn't kept.
+        block.try_reserve_exact(bytes).map_err(|_| Refusal::OUT_OF_MEMORY)?;
         block.push_str(&name);
         block.push_str(meta.target);
         Ok(Named {
@@ -190,6 +191,14 @@ mod tests {
         assert_eq!(address(&again), block);
         blocks.give_back(other);
         assert_eq!(address(&known(&meta, &mut blocks)?), of_other);
+        // Texts that grow don't make a block longer than they are.
+        for length in [KEPT / 2, KEPT - "event".len()] {
+            let target = "t".repeat(length);
+            let grown = known(&Meta::event(Level::Info, &target), &mut blocks)?;
+            blocks.give_back(grown);
+            assert_eq!(blocks.0.len(), 1);
+        }
+        blocks.take();
         // What has none gives none back, and what is long isn't kept.
         let at_callsite = What::Made(Source::Callsite(0), &Given::NONE);
         if let Kept::Made(known) = Kept::of(at_callsite, &mut blocks)? {
