@@ -54,7 +54,7 @@ impl Layer {
 
     /// In JSON from which trees can be built: with parents, targets, levels, times and the kinds of values. See
     /// [`Note`](crate::Note). It takes the reader least where each layer of the registry has this form: beside others
-    /// its notes are read from lines of the JSON form.
+    /// each line is first asked whose it is.
     #[must_use]
     pub fn tree() -> Layer {
         Layer::new(Form::Tree)

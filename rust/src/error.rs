@@ -10,7 +10,8 @@ use std::fmt;
 /// answered; want of memory may come before any of them. While something is owed (see [`Span`](crate::Span)), what
 /// stands in the way of that comes before all others but `OtherRegistry` and a name that is too long to be written.
 ///
-/// Its text begins with the registry's own word for the refusal, and says at the end what to do.
+/// Its text begins with a word for the refusal, the proved registry's where it has one, and says at the end what to do;
+/// that of [`Other`](Error::Other) does neither.
 #[derive(Clone, Debug, PartialEq, Eq, Hash)]
 #[non_exhaustive]
 pub enum Error {

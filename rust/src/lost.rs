@@ -34,10 +34,9 @@ fn place_of(reason: &Error) -> usize {
     }
 }
 
-/// What was lost: the calls of [`span!`](crate::span), [`event!`](crate::event), [`Span::enter`](crate::Span::enter),
-/// [`Span::in_scope`](crate::Span::in_scope), [`Span::record`](crate::Span::record) and
-/// [`Span::follows_from`](crate::Span::follows_from) that were refused, by reason, and lines that were thrown away
-/// unread.
+/// What was lost: refused calls, by reason, of [`span!`](crate::span), [`event!`](crate::event),
+/// [`record!`](crate::record) and the methods of [`Span`](crate::Span) that answer no error, and lines that were thrown
+/// away unread.
 ///
 /// Layers that admit `WARN` of the target `span_registry` are told of what is new, once there is room again, as an
 /// event `lost` with a field for each reason, by a worker that is no thread: `event 0 w256 - WARN lost backlog=3`.

@@ -365,7 +365,7 @@ macro_rules! record {
     };
 }
 
-/// As [`record!`](crate::record), and answers what [`Registry::record`](crate::Registry::record) does.
+/// As [`record!`](crate::record), and answers what [`Span::try_record`](crate::Span::try_record) does.
 ///
 /// ```
 /// # fn main() -> Result<(), span_registry::Error> {

@@ -294,7 +294,8 @@ impl fmt::Debug for Span {
     }
 }
 
-/// The thread is inside the span until this is dropped. What can't be done then is owed: see [`Span`].
+/// The thread is inside the span until this is dropped. What can't be done then is owed: see [`Span`]. A program in which
+/// another thread gets it, or which drops or moves its span before, doesn't compile.
 ///
 /// Guards may be dropped in any order: each takes the topmost entry of its span out.
 #[must_use = "the span is left at once where its guard is dropped"]
