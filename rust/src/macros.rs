@@ -390,12 +390,14 @@ macro_rules! try_record {
 #[macro_export]
 macro_rules! __record {
     (@put $call:ident, $none:expr, $span:expr, [$(($form:ident $key:expr, $value:expr))*] []) => {{
-        // As of a span.
-        let put = match $crate::__private::Recording::of(&$span) {
-            ::core::option::Option::Some(recording) => {
-                recording.$call([$($crate::__field!($form $key, $value)),*])
-            }
-            ::core::option::Option::None => $none,
+        // As of a span. (Behind a `match` of its own it may also be what a block or an `if` gives.)
+        let put = match &$span {
+            span => match $crate::__private::Recording::of(span) {
+                ::core::option::Option::Some(recording) => {
+                    recording.$call([$($crate::__field!($form $key, $value)),*])
+                }
+                ::core::option::Option::None => $none,
+            },
         };
         put
     }};

@@ -7,6 +7,7 @@ use span_registry::{
 };
 use std::cell::Cell;
 use std::fmt;
+use std::sync::{Arc, Mutex};
 
 /// A field of a note.
 type Told = (String, Kind, String);
@@ -129,6 +130,24 @@ fn several_records_keep_their_order_and_a_repeated_key_stands_twice() -> Result<
     let all = [&given[..], &records.concat()].concat();
     let wanted = [&records[..], &[all]].concat();
     assert_eq!(told_of(&mut drain, &BOTH), wanted);
+    Ok(())
+}
+
+#[test]
+fn the_span_may_be_any_expression_that_gives_one() -> Result<(), Error> {
+    let (registry, mut drain) = tree()?;
+    let span = span!(registry, Level::Info, "a");
+    let (other, all) = (Mutex::new(span.clone()), [Arc::new(span.clone())]);
+    record!(if all.is_empty() { &all[0] } else { &span }, n = 0);
+    record!({ &span }, n = 1);
+    record!(all[0], n = 2);
+    // The lock is free again behind it.
+    record!(other.lock().expect("no panic"), n = 3);
+    try_record!(other.lock().expect("no panic"), n = 4)?;
+    let wanted: Vec<_> = (0..5)
+        .map(|n: u8| fields([("n", Kind::Integer, &n.to_string())]))
+        .collect();
+    assert_eq!(told_of(&mut drain, &[NoteKind::Record]), wanted);
     Ok(())
 }
 
