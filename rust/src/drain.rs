@@ -335,7 +335,8 @@ impl std::fmt::Debug for Drain {
 #[cfg(test)]
 mod tests {
     use super::{told, Drain};
-    use crate::{Error, Form, Layer, Level, Meta, OnFull, Registry};
+    use crate::meta::RawId;
+    use crate::{Error, Form, Layer, Level, Meta, OnFull, Parent, Registry};
     use std::sync::Arc;
 
     const LAYERS: [fn() -> Layer; 2] = [Layer::tree, Layer::compact];
@@ -371,6 +372,28 @@ mod tests {
                 vec![of("c")]
             };
             assert_eq!(notes, wanted);
+        }
+        Ok(())
+    }
+
+    #[test]
+    fn of_a_span_whose_close_was_read_nothing_is_kept() -> Result<(), Error> {
+        for second in LAYERS {
+            let (registry, mut drain) = Registry::builder().layer(second()).layer(Layer::tree()).build()?;
+            let span = registry.span(&Meta::new(Level::Info, "app", "a"), Parent::Root, &[])?;
+            let id = span
+                .id()
+                .and_then(|id| RawId::from_u64(id.into_u64()))
+                .expect("it is wanted");
+            let part = Arc::clone(drain.parts.part(0));
+            let is_known = || part.ring().notes().is_some_and(|notes| notes.book().span(id).is_some());
+            drain.lines().for_each(drop);
+            assert!(is_known());
+            drop(span);
+            // The next line says that the close's are read.
+            registry.event(&Meta::event(Level::Info, "app"), "", &[])?;
+            drain.lines().for_each(drop);
+            assert!(!is_known());
         }
         Ok(())
     }

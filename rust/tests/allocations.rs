@@ -6,7 +6,7 @@ mod common;
 
 use common::info;
 use span_registry::{
-    event, record, span, Drain, Error, FmtSpan, Layer, Level, Note, Parent, Registry, RegistryBuilder,
+    event, record, span, Drain, Error, FmtSpan, Layer, Level, Meta, Note, Parent, Registry, RegistryBuilder,
 };
 use std::alloc::{GlobalAlloc, Layout, System};
 use std::cell::Cell;
@@ -285,13 +285,41 @@ fn of_both(
 #[test]
 fn with_trees_no_block_goes_from_who_calls_to_who_reads() -> Result<(), Error> {
     let trees = || Registry::builder().layer(Layer::tree());
+    // Of what this one isn't told the close, something is kept until its slot has another span.
+    let of_new = || Registry::builder().layer(Layer::tree().with_span_events(FmtSpan::NEW));
     for round in [by_macros, by_methods] {
         for read in [read_notes as Reading, write_lines] {
-            for builder in [trees(), trees().layer(Layer::compact()).layer(Layer::tree())] {
+            for builder in [trees(), of_new(), trees().layer(Layer::compact()).layer(Layer::tree())] {
                 let [(taken, freed), of_reader] = of_both(builder, round, read)?;
                 assert_eq!((of_reader, freed), ((0, 0), taken));
             }
         }
     }
+    Ok(())
+}
+
+/// How many blocks calls took and freed that a layer isn't told of: a span that it doesn't want, and an event for which
+/// the ring has no place.
+fn of_what_is_not_told(layer: Layer) -> Result<(u64, u64), Error> {
+    let layer = layer.with_max_level(Level::Warn);
+    let (registry, _drain) = Registry::builder().ring(1).layer(layer).build()?;
+    let event = || registry.event(&Meta::event(Level::Warn, "app"), "told", &[]);
+    let round = || {
+        assert_eq!(registry.new_span(&info("request"), Parent::Root, &[]), Ok(None));
+        assert_eq!(event(), Err(Error::Backlog));
+    };
+    event()?;
+    round();
+    let before = so_far();
+    (0..ROUNDS).for_each(|_| round());
+    Ok(since(before))
+}
+
+#[test]
+fn with_trees_what_is_not_told_takes_no_block_more() -> Result<(), Error> {
+    assert_eq!(
+        of_what_is_not_told(Layer::tree())?,
+        of_what_is_not_told(Layer::compact())?
+    );
     Ok(())
 }
