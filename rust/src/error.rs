@@ -35,7 +35,7 @@ pub enum Error {
     BadLimits(BadLimit),
     /// Memory was refused. The same call may succeed later.
     OutOfMemory,
-    /// A text has 4 GiB or more, or all texts of a call together more than can be handed over.
+    /// A text has 4 GiB or more, or a layer 2^32 rules.
     BadData,
     /// As many threads are inside spans as the registry has workers, or the thread enters a span while its thread
     /// locals are being dropped.

@@ -16,7 +16,8 @@ pub enum OnFull {
     /// It is refused as [`Backlog`](crate::Error::Backlog). The default where the drain is the program's.
     #[default]
     Refuse,
-    /// The lines of the oldest call are thrown away, and counted by [`Lost::lines`](crate::Lost::lines).
+    /// The lines of the oldest call are thrown away, and counted by [`Lost::lines`](crate::Lost::lines); so is a line of
+    /// a layer in the form of trees that is just being read, where what is kept beside it goes with them.
     DropOldest,
     /// It waits until a line was read: for ever, where the drain is there and nobody reads it. The default where a
     /// writer was [spawned](crate::RegistryBuilder::spawn_writer). A call that the writing thread itself makes, as in
