@@ -10,6 +10,9 @@ use crate::refusal::Refusal;
 /// A block that is longer isn't kept for the next texts.
 const KEPT: usize = 1024;
 
+/// How many blocks are kept, so that a backlog that was read leaves at most a mebibyte.
+const MOST_BLOCKS: usize = 1024;
+
 /// What a call does.
 #[derive(Clone, Copy, Debug)]
 pub(crate) enum What<'a> {
@@ -128,7 +131,7 @@ impl Kept {
 }
 
 /// Blocks of memory for the texts of what has some of its own. They go from the calls to who reads, and come back: a
-/// block is taken anew only where more is waiting to be read, or more spans are open, than ever before.
+/// block is taken anew only where more is waiting to be read, or more spans are open, than ever before or than are kept.
 #[derive(Default)]
 pub(crate) struct Blocks(Vec<String>);
 
@@ -140,8 +143,9 @@ impl Blocks {
     /// This is not needed any longer.
     pub(crate) fn give_back(&mut self, known: Known) {
         if let Of::Own(Named { texts, .. }) = known.of {
-            // Where there is no room for it, it goes.
-            if texts.capacity() <= KEPT && reserve(&mut self.0, 1).is_ok() {
+            // Where there is no room for it, or there are enough, it goes.
+            let fits = texts.capacity() <= KEPT && self.0.len() < MOST_BLOCKS;
+            if fits && reserve(&mut self.0, 1).is_ok() {
                 self.0.push(texts);
             }
         }
