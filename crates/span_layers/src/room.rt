@@ -40,7 +40,7 @@ pub(crate) fn compact_room(note: &Note) -> usize {
     compact_room_behind(head_len(note), note)
 }
 
-/// The same with the longest kind and numbers, which takes no look at them: for a buffer that serves text after text.
+/// The same with the longest kind and numbers, which takes no look at them.
 pub(crate) fn compact_room_at_most(note: &Note) -> usize {
     compact_room_behind(MOST_HEAD, note)
 }
