@@ -20,12 +20,8 @@ pub fn cut_line(script: &[u8]) -> (&[u8], &[u8])
 fn newline(script: &[u8]) -> Option<usize>
     ensures { result ≡ position (λ byte. byte == 10) script.now }
 {
+    // Most lines that begin with a blank have nothing else: their end is too near for a search to pay.
     if !script.is_empty() && script[0] <= b' ' {
-        // An empty line, after which more may follow, needs no look.
-        if script[0] == b'\n' {
-            return Some(0);
-        }
-        // Most lines that begin with a blank have nothing else: their end is too near for a search to pay.
         return script.iter().position(|byte| *byte == b'\n');
     }
     search(script)
